@@ -1,0 +1,3 @@
+mod Decoded
+mod Evaluated
+mod Sizes

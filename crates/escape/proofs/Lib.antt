@@ -1,0 +1,3 @@
+mod Closes
+mod Means
+mod Steps

@@ -1,0 +1,4 @@
+pub mod Characters
+pub mod Escapes
+pub mod Faults
+pub mod Meaning
