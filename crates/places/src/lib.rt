@@ -2,7 +2,9 @@
 ghost use mathlib.Core.Path.{_≡_};
 ghost use mathlib.Core.List.{List, [], _++_};
 ghost use Prim.Native.Nat.{ℕ};
-ghost use Rattle.places.specs.Places.{firstPlace, past, beyond, capped, placeBehind};
+ghost use lib.ListN.{length};
+ghost use lib.Utf8.{encodes};
+ghost use Rattle.places.specs.Places.{countChars, firstPlace, past, beyond, capped, placeBehind};
 
 // A place. A number that its type does not hold is told as the highest that it does.
 #[derive(Clone, Copy)]
@@ -59,6 +61,7 @@ impl Place {
     pub fn advance(self, bytes: &[u8]) -> Place
         ensures value { λ r. ⌜ r ≡ capped (beyond (now (bytes .entry)) self) ⌝ }
         ensures told { λ r. ⌜ ((xs : List ℕ) → self ≡ capped (placeBehind xs) → r ≡ capped (placeBehind (xs ++ now (bytes .entry)))) ⌝ }
+        ensures characters { λ _. ⌜ ((cs : List ℕ) → countChars (encodes cs) ≡ length cs) ⌝ }
     {
         let mut place = self;
         for b in bytes {
