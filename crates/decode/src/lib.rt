@@ -14,12 +14,12 @@ use escape::DecodeFault;
 use escape::FromNotUtf8;
 use escape::Unescaper;
 use escape::UnescaperStream;
+use finder::NoFinder;
+use finder::NoFinderFinder;
 use std::alloc::AllocError;
 use std::alloc::Global;
 use stream::Answer;
 use stream::Ending;
-use stream::NoFinder;
-use stream::NoFinderFinder;
 use stream::Stream;
 use utf8::check_utf8;
 

@@ -18,13 +18,13 @@ use super::fault::BadEscape;
 use super::fault::DecodeFault;
 use super::fault::FromBadEscape;
 use super::fault::FromNotUtf8;
+use finder::Finder;
+use finder::NoFinder;
+use finder::NoFinderFinder;
 use stream::Answer;
 use stream::Ending;
-use stream::Finder;
 use stream::LookAhead;
 use stream::LookAheadStream;
-use stream::NoFinder;
-use stream::NoFinderFinder;
 use stream::Stream;
 use utf8::NotUtf8;
 

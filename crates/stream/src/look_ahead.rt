@@ -4,11 +4,11 @@ ghost use mathlib.Core.Path.{_≡_};
 ghost use mathlib.Core.List.{List, _++_};
 ghost use lib.ListN.{length};
 ghost use Rattle.std.specs.Vec.{listOf};
-ghost use Rattle.stream.specs.Openings.{Opening};
+ghost use Rattle.finder.specs.Finding.{Opening};
 ghost use Rattle.stream.specs.Told.{Look};
 use super::answer::Answer;
-use super::finder::Finder;
 use super::stream::Stream;
+use finder::Finder;
 
 // Any stream, and at most one item that was taken off it and not told yet.
 #[derive(Drop)]

@@ -1,10 +1,10 @@
 // Streams: items still to come, and an ending.
 ghost use Prim.Native.Nat.{ℕ};
 ghost use mathlib.Core.List.{List};
-ghost use Rattle.stream.specs.Openings.{Opening};
+ghost use Rattle.finder.specs.Finding.{Opening};
 ghost use Rattle.stream.specs.Told.{Next, Falls};
 use super::answer::Answer;
-use super::finder::Finder;
+use finder::Finder;
 
 // A stream means the items still to come and an ending.
 pub trait Stream {
