@@ -1,3 +1,3 @@
 mod Closes
 mod Means
-mod Steps
+pub mod Steps

@@ -4,6 +4,8 @@
 // took a sign for a digit, which we refuse. `-` stands for no bytes.
 use decode::DecodeError;
 use decode::decode_to_vec;
+use hex::HexError;
+use hex::from_hex;
 use std::alloc::Global;
 use std::error::AnyError;
 use std::io::Read;
@@ -16,29 +18,16 @@ enum Wanted {
     SignRefused,
 }
 
-// The value of a hexadecimal digit.
-fn digit(b: u8) -> Result<u8, AnyError> {
-    match char::from(b).to_digit(16) {
-        Some(d) => Ok((d & 0xF) as u8),
-        None => Err("not a hexadecimal digit".into()),
-    }
-}
-
-// The bytes that hexadecimal digits write.
-fn from_hex(heap: Global, text: &str) -> Result<Vec<u8>, AnyError> {
-    let mut bytes = Vec::new(heap);
+// The bytes of a field.
+fn field(heap: Global, text: &str) -> Result<Vec<u8>, AnyError> {
     if text == "-" {
-        return Ok(bytes);
+        return Ok(Vec::new(heap));
     }
-    let (pairs, odd) = text.as_bytes().as_chunks::<2>();
-    if !odd.is_empty() {
-        return Err("an odd digit".into());
+    match from_hex(heap, text.as_bytes()) {
+        Ok(bytes) => Ok(bytes),
+        Err(HexError::NotHex) => Err("not hexadecimal".into()),
+        Err(HexError::NoMemory) => Err("no memory".into()),
     }
-    for pair in pairs {
-        let [high, low] = *pair;
-        bytes.push(digit(high)? << 4 | digit(low)?)?;
-    }
-    Ok(bytes)
 }
 
 // The recorded answer: its mark, and the bytes behind it.
@@ -47,7 +36,7 @@ fn read_answer(heap: Global, answer: &str) -> Result<Wanted, AnyError> {
         return Ok(Wanted::Refusal);
     }
     match answer.split_once(' ') {
-        Some(("=", hex)) => Ok(Wanted::Bytes(from_hex(heap, hex)?)),
+        Some(("=", hex)) => Ok(Wanted::Bytes(field(heap, hex)?)),
         Some(("~", _)) => Ok(Wanted::SignRefused),
         _ => Err("no such mark".into()),
     }
@@ -83,7 +72,7 @@ fn replay_line(heap: Global, line: &str) -> Result<Outcome, AnyError> {
     match line.split_once(' ') {
         Some((text, answer)) => {
             let recorded = read_answer(heap, answer)?;
-            compare(heap, from_hex(heap, text)?.as_slice(), &recorded)
+            compare(heap, field(heap, text)?.as_slice(), &recorded)
         }
         None => Err("no answer on the line".into()),
     }

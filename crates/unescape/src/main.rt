@@ -4,27 +4,12 @@ mod line;
 use bytes::until;
 use decode::decode_into;
 use escape::DecodeFault;
+use hex::Hex;
+use hex::HexDisplay;
 use line::next_line;
 use std::env;
 use std::error::AnyError;
-use std::fmt;
 use std::io::Read;
-
-// Bytes in hexadecimal, a space between two.
-#[derive(Clone, Copy)]
-struct Hex<'a>(&'a [u8]);
-
-impl fmt::Display for Hex<'_> as HexDisplay {
-    fn fmt<W: fmt::Write>(&self, f: &mut fmt::Formatter<W>) -> fmt::Result {
-        for (i, b) in self.0.iter().enumerate() {
-            if i > 0 {
-                f.write_str(" ")?;
-            }
-            write!(f, "{b:02X}")?;
-        }
-        Ok(())
-    }
-}
 
 // Prints what one text means, decoded into a destination that is lent. Whether it was decoded.
 fn show(rt: &LibcRuntime, number: u64, text: &[u8], room: &mut [u8]) -> Result<bool, AnyError> {
