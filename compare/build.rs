@@ -1,6 +1,6 @@
-// Cuts the original's decoder out of its own source, and links our library.
+// Cuts the original's decoder and finders out of its own source, and links our library.
 //
-// MINIJINJA_SRC  the folder that holds MiniJinja's `utils.rs`
+// MINIJINJA_SRC  the folder that holds MiniJinja's `utils.rs` and `syntax.rs`
 // FARKEZTU_LIB   the folder that holds `libboundary.a` (default: ../target/staticlib)
 // RATTLE_LIB     the folder that holds the kit's `librattle_c.a` (default: as `rt doc` tells); what
 //                it defines is needed only where ours allocates
@@ -9,18 +9,59 @@ use std::path::{Path, PathBuf};
 use std::process::{self, Command};
 use std::{env, fs};
 
-// The items that make up the decoder, by the text each begins with at the start of a line.
-const ITEMS: [&str; 3] = ["struct Unescaper {", "impl Unescaper {", "pub fn unescape("];
+// The items that make up the decoder and the finders, by the file and the text each begins with at
+// the start of a line.
+const ITEMS: [(&str, &[&str]); 3] = [
+    (
+        "utils.rs",
+        &[
+            "struct Unescaper {",
+            "impl Unescaper {",
+            "pub fn unescape(",
+            "pub fn memchr(",
+            "pub fn memchr_any<",
+        ],
+    ),
+    (
+        "syntax.rs",
+        &[
+            "pub(crate) struct Delims {",
+            "const DEFAULT_DELIMS: Delims = Delims {",
+            "fn default_delims()",
+            "pub(crate) struct StartMarkerMatcher {",
+            "impl StartMarkerMatcher {",
+            "pub struct SyntaxConfigBuilder {",
+            "impl SyntaxConfigBuilder {",
+            "pub struct SyntaxConfig {",
+            "impl Default for SyntaxConfig {",
+            "impl SyntaxConfig {",
+        ],
+    ),
+    (
+        "compiler/lexer.rs",
+        &[
+            "pub(crate) struct WhitespaceConfig {",
+            "pub enum StartMarker {",
+            "enum Whitespace {",
+            "impl Whitespace {",
+            "fn find_start_marker_memchr(",
+            "fn find_start_marker(",
+        ],
+    ),
+];
 
-// What the cut items name and the original has elsewhere: its error and its `ok!`.
+// What the cut items name and the original has elsewhere: its error, its `ok!` and its `some!`.
 const STUBS: &str = r#"
+use std::borrow::Cow;
 use std::char::decode_utf16;
 use std::iter::{once, repeat};
 use std::str::Chars;
+use std::sync::{Arc, OnceLock};
 
 #[derive(Debug)]
 pub enum ErrorKind {
     BadEscape,
+    InvalidDelimiter,
 }
 
 #[derive(Debug)]
@@ -40,6 +81,15 @@ macro_rules! ok {
         }
     };
 }
+
+macro_rules! some {
+    ($option:expr) => {
+        match $option {
+            Some(value) => value,
+            None => return None,
+        }
+    };
+}
 "#;
 
 fn main() {
@@ -55,17 +105,20 @@ fn cut_original() {
     let Some(folder) = env::var_os("MINIJINJA_SRC") else {
         fail("MINIJINJA_SRC is not set: set it to the folder that holds MiniJinja's utils.rs");
     };
-    let path = Path::new(&folder).join("utils.rs");
-    println!("cargo:rerun-if-changed={}", path.display());
-    let source = fs::read_to_string(&path)
-        .unwrap_or_else(|error| fail(&format!("cannot read {}: {error}", path.display())));
     let mut cut = String::from(STUBS);
-    for start in ITEMS {
-        let item = item(&source, start)
-            .unwrap_or_else(|| fail(&format!("{} has no whole item `{start}`", path.display())));
-        cut.push('\n');
-        cut.push_str(item);
-        cut.push('\n');
+    for (file, starts) in ITEMS {
+        let path = Path::new(&folder).join(file);
+        println!("cargo:rerun-if-changed={}", path.display());
+        let source = fs::read_to_string(&path)
+            .unwrap_or_else(|error| fail(&format!("cannot read {}: {error}", path.display())));
+        for start in starts {
+            let item = item(&source, start).unwrap_or_else(|| {
+                fail(&format!("{} has no whole item `{start}`", path.display()))
+            });
+            cut.push('\n');
+            cut.push_str(item);
+            cut.push('\n');
+        }
     }
     let out = PathBuf::from(env::var_os("OUT_DIR").unwrap()).join("original.rs");
     fs::write(out, cut).unwrap();
@@ -104,14 +157,25 @@ fn kit_library() -> Option<PathBuf> {
     Some(Path::new(guide.trim()).parent()?.parent()?.join("lib"))
 }
 
-// The item that begins with `start` at the start of a line, up to the brace that closes its first.
+// The item that begins with `start` at the start of a line, up to the brace that closes its first and
+// a semicolon behind that; with the attributes directly above it.
 fn item<'a>(source: &'a str, start: &str) -> Option<&'a str> {
     let from = match source.starts_with(start) {
         true => 0,
         false => source.find(&format!("\n{start}"))? + 1,
     };
-    let text = &source[from..];
-    Some(&text[..closing_brace(text)? + 1])
+    let mut to = from + closing_brace(&source[from..])? + 1;
+    if source[to..].starts_with(';') {
+        to += 1;
+    }
+    Some(&source[attributes(source, from)..to])
+}
+
+// Where the attributes begin that stand on lines of their own directly above `from`.
+fn attributes(source: &str, from: usize) -> usize {
+    let lines = source[..from].split_inclusive('\n').rev();
+    let above = lines.take_while(|line| line.starts_with("#["));
+    from - above.map(str::len).sum::<usize>()
 }
 
 // Where the brace stands that closes the first one; those in comments and literals do not count.

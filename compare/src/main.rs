@@ -1,5 +1,8 @@
-// Compares the original's decoder of string escapes with ours, and records the original's answers.
+// Compares the original's decoder of string escapes and its finders with ours, and records the
+// original's answers.
 
+mod find;
+#[allow(dead_code)]
 mod original;
 mod ours;
 mod record;
@@ -12,11 +15,13 @@ use std::process::ExitCode;
 
 const USAGE: &str = "\
 compare unescape [--exhaustive LENGTH] [--random COUNT] [--seed SEED]
-compare record [--count COUNT] [--seed SEED]";
+compare find --program PATH [--exhaustive LENGTH] [--random COUNT] [--seed SEED]
+compare record [--count COUNT] [--seed SEED]
+compare record-find [--count COUNT] [--seed SEED] QUESTIONS_FILE ANSWERS_FILE";
 
 fn main() -> ExitCode {
     let words: Vec<String> = env::args().skip(1).collect();
-    match run(&words) {
+    match run(words) {
         Ok(true) => ExitCode::SUCCESS,
         Ok(false) => ExitCode::from(1),
         Err(message) => {
@@ -27,44 +32,80 @@ fn main() -> ExitCode {
 }
 
 // Whether nothing unknown was found.
-fn run(words: &[String]) -> Result<bool, String> {
-    let (command, words) = words.split_first().ok_or("no command")?;
-    match command.as_str() {
+fn run(mut words: Vec<String>) -> Result<bool, String> {
+    if words.is_empty() {
+        return Err("no command".to_string());
+    }
+    match words.remove(0).as_str() {
         "unescape" => {
-            let [exhaustive, random, seed] = options(
-                words,
-                [("--exhaustive", 5), ("--random", 200_000), ("--seed", 1)],
-            )?;
-            let (exhaustive, random) = (exhaustive as usize, random as usize);
-            Ok(unescape::run(&unescape::Settings {
-                exhaustive,
-                random,
-                seed,
-            }))
+            let settings = unescape::Settings {
+                exhaustive: number(&mut words, "--exhaustive", 5)? as usize,
+                random: number(&mut words, "--random", 200_000)? as usize,
+                seed: number(&mut words, "--seed", 1)?,
+            };
+            let [] = files(words)?;
+            Ok(unescape::run(&settings))
+        }
+        "find" => {
+            let settings = find::Settings {
+                program: option(&mut words, "--program")?.ok_or("no --program is named")?,
+                exhaustive: number(&mut words, "--exhaustive", 3)? as usize,
+                random: number(&mut words, "--random", 150_000)? as usize,
+                seed: number(&mut words, "--seed", 1)?,
+            };
+            let [] = files(words)?;
+            find::run(&settings)
         }
         "record" => {
-            let [count, seed] = options(words, [("--count", 4_000), ("--seed", 1)])?;
-            Ok(record::run(count as usize, seed)
-                .inspect_err(|unknown| eprintln!("compare: {unknown}"))
-                .is_ok())
+            let count = number(&mut words, "--count", 4_000)? as usize;
+            let seed = number(&mut words, "--seed", 1)?;
+            let [] = files(words)?;
+            Ok(recorded(record::run(count, seed)))
+        }
+        "record-find" => {
+            let count = number(&mut words, "--count", 3_000)? as usize;
+            let seed = number(&mut words, "--seed", 1)?;
+            let [questions, answers] = files(words)?;
+            Ok(recorded(find::record::run(
+                count, seed, &questions, &answers,
+            )))
         }
         other => Err(format!("unknown command `{other}`")),
     }
 }
 
-// The options' numbers: those given, or what stands beside the names.
-fn options<const N: usize>(words: &[String], known: [(&str, u64); N]) -> Result<[u64; N], String> {
-    let mut values = known.map(|(_, value)| value);
-    let (pairs, rest) = words.split_at(words.len() / 2 * 2);
-    if let [word] = rest {
-        return Err(format!("`{word}` has no number, or no name"));
+fn recorded(result: Result<(), String>) -> bool {
+    result
+        .inspect_err(|unknown| eprintln!("compare: {unknown}"))
+        .is_ok()
+}
+
+// Takes the option of this name out of the words, with what stands behind it.
+fn option(words: &mut Vec<String>, name: &str) -> Result<Option<String>, String> {
+    match words.iter().position(|word| word == name) {
+        None => Ok(None),
+        Some(place) if place + 1 < words.len() => {
+            words.remove(place);
+            Ok(Some(words.remove(place)))
+        }
+        Some(_) => Err(format!("nothing stands behind {name}")),
     }
-    for pair in pairs.chunks(2) {
-        let place = known.iter().position(|(name, _)| *name == pair[0]);
-        let place = place.ok_or_else(|| format!("unknown option `{}`", pair[0]))?;
-        values[place] = pair[1]
-            .parse()
-            .map_err(|_| format!("`{}` is no number", pair[1]))?;
+}
+
+// The option's number, or `default` where it is not given.
+fn number(words: &mut Vec<String>, name: &str, default: u64) -> Result<u64, String> {
+    match option(words, name)? {
+        None => Ok(default),
+        Some(word) => word.parse().map_err(|_| format!("`{word}` is no number")),
     }
-    Ok(values)
+}
+
+// The words that are left: as many files as wanted, and no option.
+fn files<const N: usize>(words: Vec<String>) -> Result<[String; N], String> {
+    match words.iter().find(|word| word.starts_with("--")) {
+        Some(word) => Err(format!("unknown option `{word}`, or it stands twice")),
+        None => words
+            .try_into()
+            .map_err(|words: Vec<String>| format!("{N} files are wanted, {} named", words.len())),
+    }
 }

@@ -5,7 +5,7 @@ use std::io::{self, BufWriter, Write};
 
 use crate::original;
 use crate::reference::{decode, Signs};
-use crate::texts::{every, letters, Random};
+use crate::texts::{every, hex, letters, Random};
 use crate::unescape::signs_as_digits;
 
 // What stands behind the backslash in the short texts, up to SHORT characters.
@@ -100,7 +100,8 @@ const BY_HAND: [&str; 76] = [
 pub fn run(count: usize, seed: u64) -> Result<(), String> {
     let mut out = BufWriter::new(io::stdout().lock());
     for text in texts(count, seed) {
-        writeln!(out, "{} {}", hex(&text), answer(&text)?).map_err(|error| error.to_string())?;
+        writeln!(out, "{} {}", hex(text.as_bytes()), answer(&text)?)
+            .map_err(|error| error.to_string())?;
     }
     out.flush().map_err(|error| error.to_string())
 }
@@ -142,21 +143,13 @@ impl Kept {
 // `= HEX`: decoded so. `!`: refused. `~ HEX`: decoded so by the original alone, by a sign as a digit.
 fn answer(text: &str) -> Result<String, String> {
     match (original::unescape(text).ok(), decode(text, Signs::Refused)) {
-        (Some(theirs), Ok(rules)) if theirs == rules => Ok(format!("= {}", hex(&theirs))),
+        (Some(theirs), Ok(rules)) if theirs == rules => Ok(format!("= {}", hex(theirs.as_bytes()))),
         (None, Err(_)) => Ok("!".to_string()),
         (Some(theirs), Err(_)) if signs_as_digits(text, &theirs) => {
-            Ok(format!("~ {}", hex(&theirs)))
+            Ok(format!("~ {}", hex(theirs.as_bytes())))
         }
         (theirs, rules) => Err(format!(
             "text {text:?}: original {theirs:?}, rules {rules:?}"
         )),
-    }
-}
-
-// The bytes as pairs of hexadecimal digits; `-` for none.
-fn hex(text: &str) -> String {
-    match text {
-        "" => "-".to_string(),
-        text => text.bytes().map(|byte| format!("{byte:02x}")).collect(),
     }
 }

@@ -27,7 +27,7 @@ pub const FRAGMENTS: [&str; 62] = [
 ];
 
 // Bytes that break a text where they are put.
-const DAMAGE: [&[u8]; 10] = [
+pub const DAMAGE: [&[u8]; 10] = [
     b"\x80",
     b"\xff",
     b"\xc3",
@@ -74,6 +74,14 @@ fn every_of_length<P: AsRef<[u8]>>(
 // The characters as texts, one each.
 pub fn letters(alphabet: &[char]) -> Vec<String> {
     alphabet.iter().map(char::to_string).collect()
+}
+
+// The bytes as pairs of hexadecimal digits; `-` for none.
+pub fn hex(bytes: &[u8]) -> String {
+    match bytes {
+        [] => "-".to_string(),
+        bytes => bytes.iter().map(|byte| format!("{byte:02x}")).collect(),
+    }
 }
 
 // Numbers from a seed (SplitMix64): the same on every machine.

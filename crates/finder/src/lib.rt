@@ -4,6 +4,7 @@ ghost use mathlib.Core.List.{List, []};
 ghost use mathlib.Core.Path.{_≡_};
 ghost use lib.ListN.{length};
 ghost use Rattle.std.specs.declared.option.Option.the-variants.{None, Some};
+ghost use Rattle.finder.specs.Names.{markerName};
 ghost use Rattle.finder.specs.Finding.{Opening, foundFrom, Finds, Inside};
 
 // What an opening opens.
@@ -14,6 +15,21 @@ pub enum StartMarker {
     Comment,
     LineStatement,
     LineComment,
+}
+
+impl StartMarker {
+    // The marker's name.
+    pub fn name(self) -> &'static str
+        ensures { λ r. ⌜ now r ≡ markerName self ⌝ }
+    {
+        match self {
+            StartMarker::Variable => "variable",
+            StartMarker::Block => "block",
+            StartMarker::Comment => "comment",
+            StartMarker::LineStatement => "line-statement",
+            StartMarker::LineComment => "line-comment",
+        }
+    }
 }
 
 // A finder means the openings that it looks for.

@@ -62,3 +62,8 @@ reading-odd xs i bs h l r = r ∙ ap (λ ys. joined bs (unhex ys)) (drop-more xs
 pub reading-all : (xs : List ℕ) (i : ℕ) (bs : List ℕ) → length xs ≤ i → Reading xs i bs → unhex xs ≡ Some bs
 unfolding unhex
 reading-all xs i bs h r = r ∙ ap (λ ys. joined bs (unhex ys)) (drop-all i xs h) ∙ ap Some (append-nil bs)
+
+pub one-byte : (xs : List ℕ) (b : ℕ) → length xs ≡ 1 → getD xs 0 0 ≡ b → xs ≡ b ∷ []
+one-byte [] b l e = absurd (omega arith)
+one-byte (x ∷ []) b l e = ap (λ y. y ∷ []) e
+one-byte (x ∷ (y ∷ ys)) b l e = absurd (omega arith)

@@ -2,6 +2,7 @@
 use Prim.Native.Nat.{ℕ, _+_, _*_}
 use mathlib.Core.Path.{_≡_}
 use mathlib.Core.List.{List, [], _∷_}
+use mathlib.Core.Logic.{_⊎_}
 use Rattle.std.specs.Of.Vec.{vec-items}
 use Rattle.std.specs.declared.alloc.Global.{Global}
 use Rattle.std.specs.declared.vec.Vec.{Vec}
@@ -36,3 +37,9 @@ abbrev pub Read : Result (Vec ℕ Global) HexError → List ℕ → Type 0
 Read (Ok v) xs = unhex xs ≡ Some (vec-items v)
 Read (Err NotHex) xs = unhex xs ≡ None
 Read (Err NoMemory) xs = Unit {0}
+
+-- what reading a field answers: a dash stands for no bytes
+abbrev pub ReadField : Result (Vec ℕ Global) HexError → List ℕ → Type 0
+ReadField (Ok v) xs = ((xs ≡ 45 ∷ []) × (vec-items v ≡ [])) ⊎ ((xs ≡ 45 ∷ [] → ⊥) × (unhex xs ≡ Some (vec-items v)))
+ReadField (Err NotHex) xs = (xs ≡ 45 ∷ [] → ⊥) × (unhex xs ≡ None)
+ReadField (Err NoMemory) xs = Unit {0}

@@ -4,10 +4,11 @@ ghost use Rattle.escape.specs.Escapes.{hexValue};
 ghost use Prim.Native.Nat.{_<_};
 ghost use Rattle.std.specs.Options.{Cases as BySome};
 ghost use Rattle.hex.specs.declared.HexError.the-variants.{NoMemory as unallocated};
-ghost use Rattle.hex.specs.Hex.{byteOf, Read};
+ghost use Rattle.hex.specs.Hex.{byteOf, Read, ReadField};
 use std::alloc::AllocError;
 use std::alloc::Global;
 use std::alloc::Refused;
+use std::error::Error;
 use std::fmt;
 
 // Bytes to be shown, two digits each and a space between two.
@@ -27,12 +28,23 @@ pub impl fmt::Display for Hex<'_> as HexDisplay {
 }
 
 // Why hexadecimal digits are not read.
-#[derive(Clone, Copy)]
+#[derive(Clone, Copy, Debug)]
 pub enum HexError {
     // a character that is no digit, or one digit too many
     NotHex,
     NoMemory,
 }
+
+pub impl fmt::Display for HexError as HexErrorDisplay {
+    fn fmt<W: fmt::Write>(&self, f: &mut fmt::Formatter<W>) -> fmt::Result {
+        match *self {
+            HexError::NotHex => f.write_str("not hexadecimal"),
+            HexError::NoMemory => f.write_str("no memory"),
+        }
+    }
+}
+
+pub impl Error for HexError as HexErrorError {}
 
 pub impl From<AllocError> for HexError as HexFromAllocError {
     ghost converts = { λ _ y. y ≡ unallocated };
@@ -85,4 +97,14 @@ pub fn from_hex(heap: Global, text: &[u8]) -> Result<Vec<u8>, HexError>
         at += 2;
     }
     Ok(bytes)
+}
+
+// The bytes of a field: what its digits write, or none where it is a dash.
+pub fn field(heap: Global, text: &[u8]) -> Result<Vec<u8>, HexError>
+    ensures { λ r. ⌜ ReadField r (now (text .entry)) ⌝ }
+{
+    match text {
+        [b'-'] => Ok(Vec::new(heap)),
+        _ => from_hex(heap, text),
+    }
 }

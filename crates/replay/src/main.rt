@@ -4,8 +4,8 @@
 // took a sign for a digit, which we refuse. `-` stands for no bytes.
 use decode::DecodeError;
 use decode::decode_to_vec;
-use hex::HexError;
-use hex::from_hex;
+use hex::HexErrorError;
+use hex::field;
 use std::alloc::Global;
 use std::error::AnyError;
 use std::io::Read;
@@ -18,25 +18,13 @@ enum Wanted {
     SignRefused,
 }
 
-// The bytes of a field.
-fn field(heap: Global, text: &str) -> Result<Vec<u8>, AnyError> {
-    if text == "-" {
-        return Ok(Vec::new(heap));
-    }
-    match from_hex(heap, text.as_bytes()) {
-        Ok(bytes) => Ok(bytes),
-        Err(HexError::NotHex) => Err("not hexadecimal".into()),
-        Err(HexError::NoMemory) => Err("no memory".into()),
-    }
-}
-
 // The recorded answer: its mark, and the bytes behind it.
 fn read_answer(heap: Global, answer: &str) -> Result<Wanted, AnyError> {
     if answer == "!" {
         return Ok(Wanted::Refusal);
     }
     match answer.split_once(' ') {
-        Some(("=", hex)) => Ok(Wanted::Bytes(field(heap, hex)?)),
+        Some(("=", hex)) => Ok(Wanted::Bytes(field(heap, hex.as_bytes())?)),
         Some(("~", _)) => Ok(Wanted::SignRefused),
         _ => Err("no such mark".into()),
     }
@@ -72,7 +60,7 @@ fn replay_line(heap: Global, line: &str) -> Result<Outcome, AnyError> {
     match line.split_once(' ') {
         Some((text, answer)) => {
             let recorded = read_answer(heap, answer)?;
-            compare(heap, field(heap, text)?.as_slice(), &recorded)
+            compare(heap, field(heap, text.as_bytes())?.as_slice(), &recorded)
         }
         None => Err("no answer on the line".into()),
     }

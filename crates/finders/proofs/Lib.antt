@@ -1,0 +1,9 @@
+pub mod Clear
+pub mod Braces
+pub mod Blanks
+pub mod Sorted
+pub mod Held
+pub mod Known
+pub mod Shifts
+pub mod Entries
+pub mod Same

@@ -1,0 +1,5 @@
+pub mod Defaults
+pub mod Known
+pub mod Patterns
+pub mod Order
+pub mod Meant
