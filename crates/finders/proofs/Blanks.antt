@@ -1,16 +1,16 @@
 -- One byte more of a line.
-use Prim.Native.Nat.{ℕ, suc, _+_, _-_, _<_, _≤_}
-use mathlib.Core.Path.{_≡_, refl, sym, ap, subst, _∙_}
-use mathlib.Core.Bool.{Bool, true, false, _||_}
-use mathlib.Core.List.{List, [], _∷_, reverse}
-use mathlib.Core.Logic.{_⊎_, inl, inr, ⊎-elim}
+use Prim.Native.Nat.{ℕ, _+_, _-_, _<_, _≤_}
+use mathlib.Core.Path.{_≡_, ap, _∙_}
+use mathlib.Core.Bool.{true, false, _||_}
+use mathlib.Core.List.{List, _∷_, reverse}
+use mathlib.Core.Logic.{_⊎_, inl, inr}
 use native.Mathlib.Omega.{arith}
 use native.Mathlib.Numerals.{add-one}
 use lib.Dec.{eqb}
 use lib.ListN.{length, getD, take}
 use Rattle.std.proofs.shelf.Tests.{ne-eqb}
 use Rattle.finder.specs.Finding.{isLineEnd, isSpaceOrTab, blankLine}
-use Rattle.finder.proofs.Lines.{before-more, blank-end, blank-on, blank-not, blank-none}
+use Rattle.finder.proofs.Lines.{before-more, blank-end, blank-on, blank-not}
 
 pub end-byte : (b : ℕ) (bs : List ℕ) → (b ≡ 10) ⊎ (b ≡ 13) → blankLine (b ∷ bs) ≡ true
 end-byte b bs (inl e) = blank-end b bs (ap isLineEnd e)

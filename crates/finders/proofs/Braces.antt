@@ -1,20 +1,18 @@
 -- The default openings: `{` and one of three bytes.
-use Prim.Native.Nat.{ℕ, zero, suc, _+_, _-_, _<_, _≤_}
-use mathlib.Core.Path.{_≡_, refl, sym, ap, subst, _∙_}
-use mathlib.Core.Bool.{Bool, true, false}
+use Prim.Native.Nat.{ℕ, _-_, _<_, _≤_}
+use mathlib.Core.Path.{_≡_, refl, sym, ap, _∙_}
+use mathlib.Core.Bool.{false}
 use mathlib.Core.List.{List, [], _∷_}
 use mathlib.Core.Logic.{⊎-elim}
 use native.Mathlib.Omega.{arith}
 use lib.ListN.{length, getD, drop}
 use Rattle.std.proofs.shelf.Tests.{cases-bool}
-use Rattle.std.specs.declared.option.Option.{Option}
 use Rattle.std.specs.declared.option.Option.the-variants.{None, Some}
 use Rattle.bytes.specs.Search.{standsAt, Among}
 use Rattle.bytes.proofs.Stands.{stands-same, stands-other, stands-fits}
-use Rattle.finder.specs.declared.StartMarker.{StartMarker}
 use Rattle.finder.specs.declared.StartMarker.the-variants.{Variable, Block, Comment}
-use Rattle.finder.specs.Finding.{Opening, longest, qualifies}
-use Rattle.finders.specs.Defaults.{defaultOpenings, opened, pair}
+use Rattle.finder.specs.Finding.{Opening, longest}
+use Rattle.finders.specs.Defaults.{defaultOpenings, opened}
 use Rattle.finders.proofs.Clear.{Led, led-none, led-cons}
 
 pub default-led : Led (123 ∷ []) defaultOpenings

@@ -1,15 +1,13 @@
 -- What patterns hold.
 use Prim.Native.Nat.{ℕ, zero, suc, _+_, _-_, _<_, _≤_}
-use mathlib.Core.Path.{_≡_, refl, sym, ap, subst, _∙_}
+use mathlib.Core.Path.{_≡_, refl, sym, ap, _∙_}
 use mathlib.Core.Bool.{Bool, true, false}
 use Rattle.std.specs.declared.option.Option.the-variants.{Some}
 use mathlib.Core.List.{List, [], _∷_, map}
-use mathlib.Core.Logic.{_⊎_, inl, inr, ⊎-elim}
 use native.Mathlib.Omega.{arith}
 use lib.ListN.{length, getD, take, drop, set}
-use Rattle.std.proofs.shelf.Lists.{getD-map, getD-take, drop-more, length-map, length-take, length-take-le, take-take, getD-read}
+use Rattle.std.proofs.shelf.Lists.{getD-map, getD-take, drop-more, length-map, length-take-le}
 use Rattle.std.proofs.shelf.Edits.{fill-by-more}
-use Rattle.std.specs.shelf.Lists.{Has}
 use Rattle.bytes.specs.Search.{Among}
 use Rattle.finder.specs.Finding.{Opening, qualifies, longest}
 use Rattle.finders.specs.declared.pattern.Pattern.{Pattern}

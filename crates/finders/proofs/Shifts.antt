@@ -1,12 +1,11 @@
 -- One pattern put among others.
-use Prim.Native.Nat.{ℕ, zero, suc, _+_, _-_, _<_, _≤_}
-use mathlib.Core.Path.{_≡_, refl, sym, ap, subst, _∙_}
-use mathlib.Core.List.{List, [], _∷_, _++_, map, append-assoc}
+use Prim.Native.Nat.{ℕ, _+_, _-_, _<_, _≤_}
+use mathlib.Core.Path.{_≡_, sym, ap, subst, _∙_}
+use mathlib.Core.List.{List, _∷_, _++_, map, append-assoc}
 use native.Mathlib.Omega.{arith}
 use lib.ListN.{length, getD, take, drop, set}
 use lib.Seq.{paste}
 use Rattle.std.proofs.shelf.Lists.{take-more, set-at, take-at, drop-take, length-append, length-take-le, length-drop, take-take, map-append, take-map, drop-map}
-use Rattle.finder.specs.Finding.{Opening}
 use Rattle.finders.specs.declared.pattern.Pattern.{Pattern}
 use Rattle.finders.specs.Order.{entered, Falling, Place}
 use Rattle.finders.specs.Patterns.{openingOf, openingsOfFirst}

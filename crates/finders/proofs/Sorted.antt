@@ -1,14 +1,14 @@
 -- Openings whose lengths do not rise.
 use Prim.Native.Nat.{ℕ, zero, suc, _+_, _-_, _<_, _≤_}
 use mathlib.Core.Path.{_≡_, refl, sym, ap, subst, _∙_}
-use mathlib.Core.Bool.{Bool, true, false}
-use mathlib.Core.List.{List, [], _∷_, _++_, map}
+use mathlib.Core.Bool.{true, false}
+use mathlib.Core.List.{List, [], _∷_, _++_}
 use mathlib.Core.Logic.{_⊎_, inl, inr, ⊎-elim}
 use native.Mathlib.Omega.{arith}
 use lib.Dec.{ltb}
 use lib.ListN.{length, getD, take, drop}
 use Rattle.std.proofs.shelf.Lists.{getD-map, drop-all}
-use Rattle.std.proofs.shelf.Tests.{cases-bool, both-ways, ltb-true, ltb-false, lt-ltb, le-ltb}
+use Rattle.std.proofs.shelf.Tests.{cases-bool, ltb-true, ltb-false, lt-ltb, le-ltb}
 use Rattle.std.specs.declared.option.Option.{Option}
 use Rattle.std.specs.declared.option.Option.the-variants.{None, Some}
 use Rattle.std.specs.shelf.Lists.{Has}

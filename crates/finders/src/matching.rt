@@ -1,5 +1,5 @@
 // The finder of any settings' openings.
-ghost use Prim.Native.Nat.{ℕ, _<_, _≤_};
+ghost use Prim.Native.Nat.{_<_, _≤_};
 ghost use mathlib.Core.List.{reverse};
 ghost use mathlib.Core.Path.{_≡_};
 ghost use lib.ListN.{length, take, drop};
@@ -69,9 +69,9 @@ impl Patterns {
     }
 }
 
-// In one call each byte from the offset on is looked at a bounded number of times: at most 32 times by memchr_any for each of five bytes
-// (its chunks of 32 bytes begin anew behind each place where a pattern may begin), at most 5 x 16 times in comparing patterns, and once
-// for the line. The bytes before the offset are looked at once, and only if the prefix of line statements stands somewhere.
+// In one call a byte from the offset on is looked at a bounded number of times: for each of five first bytes at most 33 times by memchr_any,
+// whose chunks of 32 bytes begin anew behind a place where a pattern may begin; at most 5 x 16 times as patterns are compared; and once
+// for the line. A byte before the offset is looked at at most once, and only if a line statement's prefix stands somewhere.
 pub impl Finder for StartMarkerMatcher as MatcherFinder {
     ghost openings = { meant };
 

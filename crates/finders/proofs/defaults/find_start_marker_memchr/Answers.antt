@@ -1,13 +1,12 @@
-use Prim.Native.Nat.{ℕ, _+_}
-use mathlib.Core.Path.{_≡_, sym, ap, _∙_}
-use mathlib.Core.List.{List, [], _∷_}
+use Prim.Native.Nat.{_+_}
+use mathlib.Core.Path.{sym, ap, _∙_}
+use mathlib.Core.List.{[], _∷_}
 use native.Mathlib.Omega.{arith}
-use lib.ListN.{drop}
 use Rattle.finder.specs.Finding.{longest}
 use Rattle.finder.proofs.Found.{behindAt}
 use Rattle.finders.specs.Defaults.{defaultOpenings, opened}
 use Rattle.finders.proofs.Braces.{default-led}
-use Rattle.finders.proofs.Clear.{Clear, clear-none, turn-end, turn-here, turn-more}
+use Rattle.finders.proofs.Clear.{turn-end, turn-here, turn-more}
 use Rattle.finders.proofs.defaults.find_start_marker_memchr.Needs as need
 
 pub returns-in-Some-opening-here : need.returns-in-Some-opening-here

@@ -1,4 +1,3 @@
-use native.Mathlib.Omega.{arith}
 use borrow.Author.Needs.{needs}
 use Rattle.finders.proofs.Braces.{opens-short, opens-apart, at-variable, at-block, at-comment, at-other}
 use Rattle.finders.proofs.defaults.opening_here.Needs as need

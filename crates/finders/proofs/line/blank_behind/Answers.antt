@@ -1,5 +1,4 @@
 use borrow.Author.Needs.{needs}
-use native.Mathlib.Omega.{arith}
 use mathlib.Core.Path.{sym, _∙_}
 use Rattle.finders.proofs.Blanks.{end-byte, blank-byte, other-byte}
 use Rattle.finders.proofs.line.blank_behind.Needs as need

@@ -1,5 +1,4 @@
 use Prim.Native.Nat.{_+_}
-use mathlib.Core.Path.{sym, ap, _∙_}
 use native.Mathlib.Omega.{arith}
 use Rattle.finders.specs.Meant.{meant}
 use Rattle.finders.proofs.Clear.{turn-end, turn-here, turn-more}

@@ -4,7 +4,7 @@ use Rattle.finder.specs.declared.StartMarker.the-variants.{Variable}
 use Rattle.syntax.specs.Names.{markers}
 use Rattle.syntax.specs.Openings.{settingOf}
 use Rattle.finders.specs.Meant.{openingsIn}
-use Rattle.finders.proofs.Entries.{enters-none, enters-more, enters-all}
+use Rattle.finders.proofs.Entries.{enters-more, enters-all}
 use Rattle.finders.proofs.patterns.Patterns.of.Needs as need
 
 pub loop-marker-again : need.loop-marker-again
