@@ -11,12 +11,15 @@ pub record Example : Type 0 where
   pub text : List ℕ
   pub answer : Told (List ℕ)
 
+-- a text that is decoded to these bytes
 abbrev pub means : List ℕ → List ℕ → Example
 means xs bs = record { text = xs; answer = Done bs }
 
+-- a text that is refused with this number and place
 abbrev pub refused : List ℕ → ℕ → ℕ → Example
 refused xs n p = record { text = xs; answer = Refused n p }
 
+-- the examples
 abbrev pub examples : List Example
 examples =
     means [] [] ∷

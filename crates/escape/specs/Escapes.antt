@@ -18,6 +18,7 @@ use Rattle.escape.specs.declared.fault.DecodeFault.the-variants.{NotUtf8, Esca
 abbrev pub Indexed : Type 0
 Indexed = ℕ × ℕ
 
+-- from low to high
 abbrev pub within : ℕ → ℕ → ℕ → Bool
 within low high c = leb low c && leb c high
 
@@ -58,6 +59,7 @@ hexFrom zero acc cs = Some acc
 hexFrom (suc n) acc [] = None
 hexFrom (suc n) acc (c ∷ cs) = elim (hexValue (c .1)) [ Some d ↦ hexFrom n (acc * 16 + d) cs | None ↦ None ]
 
+-- 0 to 7
 abbrev pub isOctal : ℕ → Bool
 isOctal c = within 48 55 c
 
@@ -71,9 +73,11 @@ octalFrom (suc n) acc used (c ∷ cs) =
       | false ↦ elim (leb acc 255) [ true ↦ Gives acc used | false ↦ Bad ]
     ]
 
+-- a high surrogate
 abbrev pub isHigh : ℕ → Bool
 isHigh v = within 0xD800 0xDBFF v
 
+-- a low surrogate
 abbrev pub isLow : ℕ → Bool
 isLow v = within 0xDC00 0xDFFF v
 
@@ -133,9 +137,11 @@ pub record Unescaped : Type 0 where
   pub points : List ℕ
   pub ending : Ending DecodeFault
 
+-- one code point more in front
 abbrev pub first : ℕ → Unescaped → Unescaped
 first c u = record { points = c ∷ u .points; ending = u .ending }
 
+-- no code points, and this ending
 abbrev pub ends : Ending DecodeFault → Unescaped
 ends e = record { points = []; ending = e }
 
@@ -154,5 +160,6 @@ unescapedFrom zero (c ∷ cs) e =
       | false ↦ first (c .1) (unescapedFrom zero cs e)
     ]
 
+-- what characters mean that end so
 abbrev pub unescaped : List Indexed → Ending Illformed → Unescaped
 unescaped cs e = unescapedFrom 0 cs e

@@ -39,6 +39,7 @@ abbrev pub meaning : Option BadEscape → List Indexed → Ending NotUtf8 → Un
 meaning (Some f) cs e = ends (Failed (Escape f))
 meaning None cs e = unescaped cs e
 
+-- what a decoder means
 abbrev pub means : Unescaper → Unescaped
 means u = meaning (u .fault) (coming u) (closing u)
 

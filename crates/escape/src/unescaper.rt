@@ -1,11 +1,8 @@
 // The decoder of escapes: a stream of characters over a text's characters.
-ghost use Prim.Native.Nat.{ℕ, suc, _+_, _-_, _*_, _<_, _≤_};
-ghost use mathlib.Core.Bool.{true};
+ghost use Prim.Native.Nat.{_<_, _≤_};
 ghost use mathlib.Core.Path.{_≡_};
-ghost use mathlib.Core.List.{List, _++_};
 ghost use denote.Ref.{now};
 ghost use lib.ListN.{length, drop, getD};
-ghost use Rattle.std.specs.Options.{isSome};
 ghost use Rattle.std.specs.declared.option.Option.the-variants.{None, Some};
 ghost use Rattle.escape.specs.Escapes.{hexFrom, octalFrom, Gives, Bad, begins, escape as escapeOf, unicode, partner, byteEscape, passed as passedOn, unescaped};
 ghost use Rattle.stream.specs.Told.{Next, Falls};

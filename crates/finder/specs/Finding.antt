@@ -22,9 +22,11 @@ pub record Opening : Type 0 where
 abbrev pub Triple : Type 0
 Triple = ℕ × StartMarker × ℕ
 
+-- CR or LF
 abbrev pub isLineEnd : ℕ → Bool
 isLineEnd b = eqb b 13 || eqb b 10
 
+-- a space or a tab
 abbrev pub isSpaceOrTab : ℕ → Bool
 isSpaceOrTab b = eqb b 32 || eqb b 9
 

@@ -5,6 +5,7 @@ use lib.Chars.{codes}
 use Rattle.finder.specs.declared.StartMarker.{StartMarker}
 use Rattle.finder.specs.declared.StartMarker.the-variants.{Variable, Block, Comment, LineStatement, LineComment}
 
+-- the name of a marker
 abbrev pub markerName : StartMarker → List ℕ
 markerName Variable = codes "variable"
 markerName Block = codes "block"

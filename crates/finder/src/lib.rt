@@ -1,9 +1,6 @@
 // Finders: what opens a tag, and where it next stands.
-ghost use Prim.Native.Nat.{_+_, _<_, _≤_};
 ghost use mathlib.Core.List.{List, []};
 ghost use mathlib.Core.Path.{_≡_};
-ghost use lib.ListN.{length};
-ghost use Rattle.std.specs.declared.option.Option.the-variants.{None, Some};
 ghost use Rattle.finder.specs.Names.{markerName};
 ghost use Rattle.finder.specs.Finding.{Opening, foundFrom, Finds, Inside};
 

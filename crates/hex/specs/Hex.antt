@@ -42,4 +42,4 @@ Read (Err NoMemory) xs = Unit {0}
 abbrev pub ReadField : Result (Vec ℕ Global) HexError → List ℕ → Type 0
 ReadField (Ok v) xs = ((xs ≡ 45 ∷ []) × (vec-items v ≡ [])) ⊎ ((xs ≡ 45 ∷ [] → ⊥) × (unhex xs ≡ Some (vec-items v)))
 ReadField (Err NotHex) xs = (xs ≡ 45 ∷ [] → ⊥) × (unhex xs ≡ None)
-ReadField (Err NoMemory) xs = Unit {0}
+ReadField (Err NoMemory) xs = xs ≡ 45 ∷ [] → ⊥

@@ -27,7 +27,7 @@ const NAMES: [DelimiterName; 8] = [
     DelimiterName::LineCommentPrefix,
 ];
 
-// The default delimiters as fields, which the finder of its own serves.
+// The default delimiters as fields; these have a finder of their own.
 const DEFAULTS: &str = "7b25 257d 7b7b 7d7d 7b23 237d - - ";
 
 // The first field of a line, and what follows it.
@@ -59,17 +59,31 @@ fn show_refusal(rt: &LibcRuntime, fault: SyntaxFault) -> Result<(), AnyError> {
     Ok(())
 }
 
-// What the finder of the settings finds.
+// Whether two finds are the same.
+fn same(a: Option<(usize, StartMarker, usize)>, b: Option<(usize, StartMarker, usize)>) -> bool {
+    match (a, b) {
+        (Some((distance, marker, len)), Some((far, other, size))) => {
+            distance == far && len == size && marker.name() == other.name()
+        }
+        (None, None) => true,
+        _ => false,
+    }
+}
+
+// Prints what the finders of the settings find: for the default delimiters there are two.
 fn seek(
+    rt: &LibcRuntime,
     settings: Settings,
     default: bool,
     source: &[u8],
     offset: usize,
-) -> Option<(usize, StartMarker, usize)> {
-    if default {
-        return DefaultFinder.find(source, offset);
+) -> Result<(), AnyError> {
+    let found = StartMarkerMatcher::new(&settings).find(source, offset);
+    if default && !same(found, DefaultFinder.find(source, offset)) {
+        println!(rt, "finders differ")?;
+        return Ok(());
     }
-    StartMarkerMatcher::new(&settings).find(source, offset)
+    show(rt, found)
 }
 
 // Answers one line.
@@ -89,7 +103,7 @@ fn answer(rt: &LibcRuntime, line: &str) -> Result<(), AnyError> {
     let offset = number.parse::<usize>()?;
     let default = line.starts_with(DEFAULTS);
     match draft.build() {
-        Ok(settings) => show(rt, seek(settings, default, source.as_slice(), offset)),
+        Ok(settings) => seek(rt, settings, default, source.as_slice(), offset),
         Err(fault) => show_refusal(rt, fault),
     }
 }
