@@ -1,4 +1,7 @@
 // The boundary for C and Rust: a slice passes as a pointer and then a length.
+
+#![tactic(auto)]
+
 ghost use Rattle.std.specs.Prelude.{◌≡◌, length};
 ghost use Rattle.decode.specs.Decoding.{decode, length_told, written, overwritten};
 ghost use Rattle.boundary.specs.Numbers.{number, worth};

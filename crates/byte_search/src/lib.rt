@@ -1,4 +1,7 @@
 // Searching bytes: every function is total, and its answer is what specs/Search.antt defines.
+
+#![tactic(auto)]
+
 ghost use Rattle.std.specs.Prelude.{◌≡◌, ℕ, ◌+◌, ◌-◌, ◌<◌, ◌≤◌, min, List, [], ◌∷◌, ◌++◌, length, take, drop, Some, None, Decides};
 ghost use Rattle.byte_search.specs.Search.{stands_at, first_in, distance_to, First, Among, Holds, HoldsAny, Stands};
 

@@ -1,4 +1,7 @@
 // Decoding a string text: how long it becomes, and its bytes.
+
+#![tactic(auto)]
+
 ghost use Rattle.std.specs.Prelude.{◌≡◌, ◌+◌, ◌≤◌, ◌++◌, length, take, drop, IfOk, OnOk};
 ghost use Rattle.std.proofs.Math.Utf8.{encode, encodes};
 ghost use Rattle.decode.specs.Answers.{Decoded};

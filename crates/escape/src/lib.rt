@@ -1,4 +1,7 @@
 // String texts: their characters as a stream, and the decoder of their escapes as another.
+
+#![tactic(auto)]
+
 pub mod chars;
 pub mod fault;
 pub mod unescaper;

@@ -1,4 +1,7 @@
 // Finders: what opens a tag, and where it next stands.
+
+#![tactic(auto)]
+
 ghost use Rattle.std.specs.Prelude.{◌≡◌, List, []};
 ghost use Rattle.finder.specs.Names.{marker_name};
 ghost use Rattle.finder.specs.Finding.{Opening, found_from, Finds, Inside};

@@ -1,4 +1,7 @@
 // Finders: of the default openings, and of the openings of any settings.
+
+#![tactic(auto)]
+
 pub mod defaults;
 mod entering;
 mod line;

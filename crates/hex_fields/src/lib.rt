@@ -1,4 +1,7 @@
 // Bytes in hexadecimal, for programs that read and write them.
+
+#![tactic(auto)]
+
 ghost use Rattle.std.specs.Prelude.{◌≡◌, ◌<◌, IfSome};
 ghost use Rattle.escape.specs.Escapes.{hex_value};
 ghost use Rattle.hex_fields.specs.declared.HexError.TheVariants.{NoMemory as unallocated};

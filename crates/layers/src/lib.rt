@@ -1,4 +1,7 @@
 // Layers: streams over any stream of pieces below them, each proved once for all of these.
+
+#![tactic(auto)]
+
 pub mod fault;
 pub mod parts;
 pub mod piece;

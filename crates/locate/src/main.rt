@@ -1,6 +1,9 @@
 // Answers questions about openings: under these delimiters, what does a finder find from this offset of the source on?
 //
 // A line has ten fields with a space between two: the eight delimiters and the source in hexadecimal, a dash for none, and the offset.
+
+#![tactic(auto)]
+
 use anyhow::anyhow;
 use finder::{Finder, StartMarker};
 use finders::{DefaultFinder, StartMarkerMatcher};

@@ -1,4 +1,7 @@
 // Numbers: the longest that stands at the front, its parts, and its value.
+
+#![tactic(auto)]
+
 ghost use Rattle.std.specs.Prelude.{◌≡◌, ◌+◌, ◌^◌, ◌<◌, length, Decides};
 ghost use Rattle.rules.specs.declared.NumberState.TheVariants.{RadixInteger};
 ghost use Rattle.rules.specs.declared.Pending.TheVariants.{Nothing as idle};

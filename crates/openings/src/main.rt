@@ -1,4 +1,7 @@
 // Lists every opening in standard input under the default delimiters: its offset, what it opens, and its length.
+
+#![tactic(auto)]
+
 use finder::Finder;
 use finders::DefaultFinder;
 use std::io::Read;

@@ -1,4 +1,7 @@
 // Pieces of a template: tokens and gaps, and why a reading fails.
+
+#![tactic(auto)]
+
 pub mod fault;
 pub mod kind;
 pub mod piece;

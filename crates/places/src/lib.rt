@@ -1,4 +1,7 @@
 // Places in a template: lines from 1, columns from 0 in characters, offsets in bytes.
+
+#![tactic(auto)]
+
 ghost use Rattle.std.specs.Prelude.{◌≡◌, ℕ, List, [], ◌++◌, length};
 ghost use Rattle.std.proofs.Math.Utf8.{encodes};
 ghost use Rattle.places.specs.Places.{count_chars, first_place, past, beyond, capped, place_behind};

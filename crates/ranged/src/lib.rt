@@ -1,4 +1,7 @@
 // The one check of a table of ranged records: each begins no earlier than the one before it ended.
+
+#![tactic(auto)]
+
 ghost use Rattle.std.specs.Prelude.{◌≡◌, ℕ};
 ghost use Rattle.ranged.specs.Ranges.{first_too_early, Told};
 

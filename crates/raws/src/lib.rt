@@ -1,4 +1,7 @@
 // Raw blocks: their tags, and the text between them.
+
+#![tactic(auto)]
+
 ghost use Rattle.std.specs.Prelude.{◌≡◌, ◌+◌, ◌-◌, ◌≤◌, ◌&&◌, length, take, drop};
 ghost use Rattle.byte_search.specs.Search.{stands_at};
 ghost use Rattle.rules.specs.Bytes.{is_sign, behind_at};

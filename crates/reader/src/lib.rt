@@ -1,4 +1,7 @@
 // The reader of templates: every byte comes as a piece, a token or a gap.
+
+#![tactic(auto)]
+
 mod chop;
 pub mod closing;
 pub mod fault;

@@ -1,4 +1,7 @@
 // Recorded pieces: records that are checked and then are a stream, and tokens that borrow from the template.
+
+#![tactic(auto)]
+
 pub mod fault;
 mod range;
 pub mod recorded;

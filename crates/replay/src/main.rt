@@ -2,6 +2,9 @@
 //
 // Each line has a text in hexadecimal and what the original answered: `= HEX` for decoded bytes, `!` for a refusal, and `~ HEX` where it
 // took a sign for a digit, which we refuse. `-` stands for no bytes.
+
+#![tactic(auto)]
+
 use anyhow::anyhow;
 use decode::{DecodeError, decode_to_vec};
 use hex_fields::field;

@@ -1,4 +1,7 @@
 // The words that the rules of reading and the code share.
+
+#![tactic(auto)]
+
 use finder::StartMarker;
 use pieces::{FaultKind, Kind};
 

@@ -1,4 +1,7 @@
 // Signs at openings and ends, and what they order behind an end.
+
+#![tactic(auto)]
+
 ghost use Rattle.std.specs.Prelude.{◌≡◌};
 ghost use Rattle.rules.specs.Bytes.{sign_of, sign_at, sign_len};
 ghost use Rattle.rules.specs.Config.{config_of};

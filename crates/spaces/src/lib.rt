@@ -1,4 +1,7 @@
 // White space in bytes: the runs at the front and at a place, blanks and the ends of lines.
+
+#![tactic(auto)]
+
 ghost use Rattle.std.specs.Prelude.{◌≡◌, ℕ, ◌≤◌, Bool, true, take, None, Decides};
 ghost use Rattle.std.specs.Char.{is_whitespace};
 ghost use Rattle.ranged.specs.Ranges.{first_too_early, Rising};

@@ -1,4 +1,7 @@
 // Streams by their meaning, and the one look-ahead that goes on any of them.
+
+#![tactic(auto)]
+
 pub mod answer;
 pub mod look_ahead;
 pub mod stream;

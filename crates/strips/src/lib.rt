@@ -1,4 +1,7 @@
 // Strips: the white space that is left out of text before an opening.
+
+#![tactic(auto)]
+
 ghost use Rattle.std.specs.Prelude.{◌≡◌, ◌+◌, ◌≤◌, [], length, take, drop, Decides};
 ghost use Rattle.finder.specs.Finding.{is_line_end};
 ghost use Rattle.spaces.specs.Runs.{white_run, all_pass, kept, Longest};

@@ -1,4 +1,7 @@
 // The delimiters of a template language: a draft of them, and the settings that are built from it.
+
+#![tactic(auto)]
+
 pub mod delimiter;
 pub mod draft;
 pub mod fault;

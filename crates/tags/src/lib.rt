@@ -1,4 +1,7 @@
 // Reading inside tags.
+
+#![tactic(auto)]
+
 mod ends;
 mod tag;
 mod tokens;

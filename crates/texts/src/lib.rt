@@ -1,4 +1,7 @@
 // Reading text: what comes next ahead of an opening, and at one.
+
+#![tactic(auto)]
+
 ghost use Rattle.std.specs.Prelude.{◌≡◌, ◌+◌, ◌-◌, ◌≤◌, length, drop, Some};
 ghost use Rattle.rules.specs.Bytes.{in_line, run, sign_len, behind_at, LongestRun};
 ghost use Rattle.rules.specs.Config.{config_of};

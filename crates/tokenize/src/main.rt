@@ -2,6 +2,9 @@
 //
 // A line has eleven fields with a space between two: the eight delimiters in hexadecimal, a dash for none; the flags; `t` for a template or `e`
 // for an expression; and its bytes in hexadecimal.
+
+#![tactic(auto)]
+
 use anyhow::anyhow;
 use finder::Finder;
 use finders::{DefaultFinder, StartMarkerMatcher};

@@ -1,4 +1,7 @@
 // Reads standard input line by line, takes each line as the text between the quotes of a string, and prints what it means.
+
+#![tactic(auto)]
+
 mod line;
 
 use byte_search::until;

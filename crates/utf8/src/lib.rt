@@ -1,4 +1,7 @@
 // UTF-8 on bytes: the character at a place, and whether all of the bytes are well formed.
+
+#![tactic(auto)]
+
 ghost use Rattle.std.specs.Prelude.{◌≡◌, ℕ, ◌+◌, ◌<◌, ◌≤◌, true, length, drop, Some, Decides, slice_index};
 ghost use Rattle.std.proofs.Math.Utf8.{scalar};
 ghost use Rattle.utf8.specs.Utf8.{char_at, checked, Encoded, Agrees, Second};

@@ -1,4 +1,7 @@
 // The words inside tags: operators, identifiers and strings.
+
+#![tactic(auto)]
+
 mod names;
 mod operators;
 mod strings;

@@ -12,12 +12,12 @@ returns-then-chunk-has-any c = record {
 
 pub loop-i-preserved : goal.loop-i-preserved
 loop-i-preserved c =
-    clear_more c.args.haystack.now c.as-chunks.result.0.now c.as-chunks.ensures.front c.as-chunks.ensures.front-len c.loop-i.i c.loop-i-test.true c.args.needles.now
-    (not_from_Decides c.chunk-has-any.result c.chunk-has-any.ensures c.if-chunk-has-any.false) c.loop-i.invariant
+    clear_more c.args.haystack.now c.as_chunks.result.0.now c.as_chunks.ensures.front c.as_chunks.ensures.front_len c.loop-i.i c.loop-i-test.true c.args.needles.now
+    (not_from_Decides c.chunk_has_any.result c.chunk_has_any.ensures c.if-chunk-has-any.false) c.loop-i.invariant
 
 pub returns : goal.returns
 returns c = record {
-  within = omega (arith, c.as-chunks.ensures.front-len);
+  within = omega (arith, c.as_chunks.ensures.front_len);
   clear = λ k h. c.loop-i.invariant k (omega arith);
-  most = λ h. absurd (omega (arith, c.as-chunks.ensures.front-len));
+  most = λ h. absurd (omega (arith, c.as_chunks.ensures.front_len));
 }

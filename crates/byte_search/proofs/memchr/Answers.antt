@@ -3,7 +3,7 @@ use Rattle.byte_search.proofs.memchr.Goals as goal
 
 pub returns : goal.returns
 returns c = record {
-  value = c.memchr-any.ensures.value;
-  first = first_of_one c.args.needle c.args.haystack.now c.memchr-any.result c.memchr-any.ensures.first;
-  within = c.memchr-any.ensures.within;
+  value = c.memchr_any.ensures.value;
+  first = first_of_one c.args.needle c.args.haystack.now c.memchr_any.result c.memchr_any.ensures.first;
+  within = c.memchr_any.ensures.within;
 }

@@ -30,12 +30,12 @@ loop-d-preserved c =
     let d = c.in-Some.d in (
       omega (arith, c.in-Some.ensures.within),
       below_more _ _ (lead_skip ds xs c.after.result.now i (omega (arith, ltb-false)) c.after.ensures.value c.loop-d.invariant.1 d c.in-Some.ensures.first)
-          (λ s. both_ways (stands_at ds (drop (i + d) xs)) (stands_told ds c.after-in-Some.result.now (drop (i + d) xs) c.starts-with-bytes.result false c.after-in-Some.ensures.value c.starts-with-bytes.ensures.value c.if-starts-with-bytes.false) s.1),
+          (λ s. both_ways (stands_at ds (drop (i + d) xs)) (stands_told ds c.after-in-Some.result.now (drop (i + d) xs) c.starts_with_bytes.result false c.after-in-Some.ensures.value c.starts_with_bytes.ensures.value c.if-starts_with_bytes.false) s.1),
     )
 
 pub returns : goal.returns
 returns c =
     let ds = c.args.needle.now in
     let xs = c.args.haystack.now in
-    let f : First (Stands ds xs) None = lead_none ds xs c.after.result.now c.loop-d.i (omega (arith, ltb-false)) c.after.ensures.value c.loop-d.invariant.1 c.in-default-memchr.ensures.first in
+    let f : First (Stands ds xs) None = lead_none ds xs c.after.result.now c.loop-d.i (omega (arith, ltb-false)) c.after.ensures.value c.loop-d.invariant.1 c.in_default-memchr.ensures.first in
     record { value = distance_by ds xs None f; first = f; within = tt }
