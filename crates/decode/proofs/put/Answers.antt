@@ -5,9 +5,9 @@ use Rattle.decode.proofs.put.Goals as goal
 
 pub returns : goal.returns
 returns c =
-    let b = c.as-bytes-bytes.ensures.value ∙ c.encode-utf8.ensures.value in
+    let b = c.as_bytes-bytes.ensures.value ∙ c.encode_utf8.ensures.value in
     record {
       value = ap length b;
-      after = put_is c.args.dst.now c.copy-from-slice.new.self c.as-bytes-bytes.result.now (encode c.args.c) c.args.at (c.args.at + length c.as-bytes-bytes.result.now - c.args.at)
-          c.copy-from-slice.ensures.after b refl;
+      after = put_is c.args.dst.now c.copy_from_slice.new.self c.as_bytes-bytes.result.now (encode c.args.c) c.args.at (c.args.at + length c.as_bytes-bytes.result.now - c.args.at)
+          c.copy_from_slice.ensures.after b refl;
     }

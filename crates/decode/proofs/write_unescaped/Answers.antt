@@ -11,8 +11,8 @@ put-at-requires c =
     c.loop-c.invariant.0 (c.in-Item.ensures.tells tt) refl in
     omega (arith, r, c.requires)
 
-pub overflow-add-at : goal.overflow-add-at
-overflow-add-at c =
+pub overflow_add-at : goal.overflow_add-at
+overflow_add-at c =
     let r = counted_room (unescapes c.args.text.now) (means c.loop-c.chars) (means c.next.new.self) c.loop-c.at c.put-at.result c.in-Item.c
     c.loop-c.invariant.0 (c.in-Item.ensures.tells tt) c.put-at.ensures.value in
     omega (arith, r, c.requires)
@@ -26,5 +26,5 @@ loop-c-preserved c =
 
 pub returns : goal.returns
 returns c =
-    written_all (unescapes c.args.text.now) (means c.loop-c.chars) (means c.next.new.self) c.args.dst.now c.loop-c.dst c.loop-c.at c.in-default.field-0
-    c.loop-c.invariant (c.in-default.ensures.tells tt)
+    written_all (unescapes c.args.text.now) (means c.loop-c.chars) (means c.next.new.self) c.args.dst.now c.loop-c.dst c.loop-c.at c.in_default.field-0
+    c.loop-c.invariant (c.in_default.ensures.tells tt)

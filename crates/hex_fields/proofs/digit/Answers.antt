@@ -6,5 +6,5 @@ use Rattle.hex_fields.proofs.digit.Goals as goal
 
 pub returns : goal.returns
 returns c =
-    let h = digit_is c.to-digit.result c.args.b (subst (λ n. SomeIff c.to-digit.result (digit_value n < 16) (digit_value n)) c.from.ensures c.to-digit.ensures.value) in
+    let h = digit_is c.to_digit.result c.args.b (subst (λ n. SomeIff c.to_digit.result (digit_value n < 16) (digit_value n)) c.from.ensures c.to_digit.ensures.value) in
     record { value = h.0; below = h.1 }

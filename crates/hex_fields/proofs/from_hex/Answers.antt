@@ -5,8 +5,8 @@ use Rattle.hex_fields.proofs.from_hex.Goals as goal
 pub returns-then-text-at-lt2 : goal.returns-then-text-at-lt2
 returns-then-text-at-lt2 c = reading_odd c.args.text.now c.loop-at.at (vec_items c.loop-at.bytes) c.loop-at-test.true c.if-text-at-lt2.true c.loop-at.invariant.1
 
-pub returns-in-default : goal.returns-in-default
-returns-in-default c = reading_bad c.args.text.now c.loop-at.at (vec_items c.loop-at.bytes) (omega arith) c.in-default.ensures c.loop-at.invariant.1
+pub returns-in_default : goal.returns-in_default
+returns-in_default c = reading_bad c.args.text.now c.loop-at.at (vec_items c.loop-at.bytes) (omega arith) c.in_default.ensures c.loop-at.invariant.1
 
 pub loop-at-preserved : goal.loop-at-preserved
 loop-at-preserved c = (

@@ -6,5 +6,5 @@ use Rattle.spaces.proofs.line_end.Goals as goal
 pub returns-in-13-2 : goal.returns-in-13-2
 returns-in-13-2 c = let e : 1 ≡ line_end c.args.s.now = search rules in record { value = e; told = line_told c.args.s.now 1 e }
 
-pub returns-in-default : goal.returns-in-default
-returns-in-default c = let e : 0 ≡ line_end c.args.s.now = search rules in record { value = e; told = line_told c.args.s.now 0 e }
+pub returns-in_default : goal.returns-in_default
+returns-in_default c = let e : 0 ≡ line_end c.args.s.now = search rules in record { value = e; told = line_told c.args.s.now 0 e }

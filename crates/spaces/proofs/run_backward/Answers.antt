@@ -16,6 +16,6 @@ loop-c-preserved g c = (back_more (g.C.CharSet.has c.args.set.now) c.until-front
 
 pub returns : goal.returns
 returns g c =
-    let k = back_end (g.C.CharSet.has c.args.set.now) c.until-front.result.now c.loop-c.start c.loop-c.invariant c.in-default.ensures in
+    let k = back_end (g.C.CharSet.has c.args.set.now) c.until-front.result.now c.loop-c.start c.loop-c.invariant c.in_default.ensures in
     let t = tail_at (g.C.CharSet.has c.args.set.now) c.until-front.result.now _ c.loop-c.start c.until-front.ensures.value k in
     record { value = t.0; longest = t.1 }

@@ -12,5 +12,5 @@ loop-c-preserved g c = ran_more (g.C.CharSet.has c.args.set.now) c.args.s.now c.
 
 pub returns : goal.returns
 returns g c =
-    let e = ran_none (g.C.CharSet.has c.args.set.now) c.args.s.now c.loop-c.end c.loop-c.invariant (sym c.in-default.ensures.value) in
+    let e = ran_none (g.C.CharSet.has c.args.set.now) c.args.s.now c.loop-c.end c.loop-c.invariant (sym c.in_default.ensures.value) in
     record { value = e; longest = longest_at (g.C.CharSet.has c.args.set.now) c.args.s.now c.loop-c.end e }

@@ -7,7 +7,7 @@ pub returns-in-Remove : goal.returns-in-Remove
 returns-in-Remove c =
     let e = text_of c.args.source.now c.after.result.now c.until-text.result.now c.args.offset c.args.distance c.after.ensures.value c.until-text.ensures.value in
     record {
-      value = lead_remove (config_of c.args.settings.now) c.args.marker c.args.ws c.args.source.now c.until-text.result.now c.args.offset c.args.distance c.trim-end.result e c.in-Remove.is c.trim-end.ensures.value;
+      value = lead_remove (config_of c.args.settings.now) c.args.marker c.args.ws c.args.source.now c.until-text.result.now c.args.offset c.args.distance c.trim_end.result e c.in-Remove.is c.trim_end.ensures.value;
       within = omega arith;
     }
 
@@ -19,18 +19,18 @@ returns-in-Preserve c =
       within = omega arith;
     }
 
-pub returns-then-should-lstrip-block : goal.returns-then-should-lstrip-block
-returns-then-should-lstrip-block c =
+pub returns-then-should_lstrip_block : goal.returns-then-should_lstrip_block
+returns-then-should_lstrip_block c =
     let e = text_of c.args.source.now c.after.result.now c.until-text.result.now c.args.offset c.args.distance c.after.ensures.value c.until-text.ensures.value in
     record {
-      value = lead_default (config_of c.args.settings.now) c.args.marker c.args.ws c.args.source.now c.until-text.result.now c.args.offset c.args.distance c.lstrip-block.result e c.should-lstrip-block.result true c.in-Default.is c.should-lstrip-block.ensures c.if-should-lstrip-block.true c.lstrip-block.ensures.value;
+      value = lead_default (config_of c.args.settings.now) c.args.marker c.args.ws c.args.source.now c.until-text.result.now c.args.offset c.args.distance c.lstrip_block.result e c.should_lstrip_block.result true c.in-Default.is c.should_lstrip_block.ensures c.if-should_lstrip_block.true c.lstrip_block.ensures.value;
       within = omega arith;
     }
 
-pub returns-else-should-lstrip-block : goal.returns-else-should-lstrip-block
-returns-else-should-lstrip-block c =
+pub returns-else-should_lstrip_block : goal.returns-else-should_lstrip_block
+returns-else-should_lstrip_block c =
     let e = text_of c.args.source.now c.after.result.now c.until-text.result.now c.args.offset c.args.distance c.after.ensures.value c.until-text.ensures.value in
     record {
-      value = lead_default (config_of c.args.settings.now) c.args.marker c.args.ws c.args.source.now c.until-text.result.now c.args.offset c.args.distance _ e c.should-lstrip-block.result false c.in-Default.is c.should-lstrip-block.ensures c.if-should-lstrip-block.false refl;
+      value = lead_default (config_of c.args.settings.now) c.args.marker c.args.ws c.args.source.now c.until-text.result.now c.args.offset c.args.distance _ e c.should_lstrip_block.result false c.in-Default.is c.should_lstrip_block.ensures c.if-should_lstrip_block.false refl;
       within = omega arith;
     }

@@ -8,22 +8,22 @@ use Rattle.texts.proofs.Gaps.{plain_inside}
 use Rattle.texts.proofs.Seeking.{is_none, is_some, text_end, text_all, text_found}
 use Rattle.texts.proofs.text.Goals as goal
 
-pub returns-then-is-empty : goal.returns-then-is-empty
-returns-then-is-empty g c =
-    let z = is_none (length c.after-rest.result.now) c.if-is-empty.ensures in
+pub returns-then-is_empty : goal.returns-then-is_empty
+returns-then-is_empty g c =
+    let z = is_none (length c.after-rest.result.now) c.if-is_empty.ensures in
     record {
       value = text_end (g.F.Finder.openings c.args.finder.now) (config_of c.args.settings.now) c.args.source.now c.after-rest.result.now c.args.offset c.after-rest.ensures.value z;
       inside = omega arith;
     }
 
-pub returns-in-default : goal.returns-in-default
-returns-in-default g c = record {
-  value = text_all (g.F.Finder.openings c.args.finder.now) (config_of c.args.settings.now) c.args.source.now c.after-rest.result.now c.args.offset c.after-rest.ensures.value c.plain.result (is_some (length c.after-rest.result.now) c.if-is-empty.ensures) c.in-default.ensures.value c.plain.ensures;
+pub returns-in_default : goal.returns-in_default
+returns-in_default g c = record {
+  value = text_all (g.F.Finder.openings c.args.finder.now) (config_of c.args.settings.now) c.args.source.now c.after-rest.result.now c.args.offset c.after-rest.ensures.value c.plain.result (is_some (length c.after-rest.result.now) c.if-is_empty.ensures) c.in_default.ensures.value c.plain.ensures;
   inside = plain_inside c.plain.result _ (plain Text (length c.after-rest.result.now) Template Nothing) c.plain.ensures (omega arith, omega arith, omega arith);
 }
 
 pub returns : goal.returns
 returns g c = record {
-  value = text_found (g.F.Finder.openings c.args.finder.now) (config_of c.args.settings.now) c.args.source.now c.after-rest.result.now c.args.offset c.after-rest.ensures.value (Some (c.in-Some.distance, c.in-Some.marker, c.in-Some.len)) c.meet.result (is_some (length c.after-rest.result.now) c.if-is-empty.ensures) c.in-Some.ensures.value c.meet.ensures.value;
+  value = text_found (g.F.Finder.openings c.args.finder.now) (config_of c.args.settings.now) c.args.source.now c.after-rest.result.now c.args.offset c.after-rest.ensures.value (Some (c.in-Some.distance, c.in-Some.marker, c.in-Some.len)) c.meet.result (is_some (length c.after-rest.result.now) c.if-is_empty.ensures) c.in-Some.ensures.value c.meet.ensures.value;
   inside = c.meet.ensures.inside;
 }

@@ -20,8 +20,8 @@ returns-in-224-to-239 c = record { value = c.three.ensures; encoded = encoded_at
 pub returns-in-240-to-244 : goal.returns-in-240-to-244
 returns-in-240-to-244 c = record { value = c.four.ensures; encoded = encoded_at c.args.s.now c.args.«at» _ c.four.ensures }
 
-pub returns-in-default : goal.returns-in-default
-returns-in-default c = let e = sym (no_lead c.args.s.now c.args.«at» (omega arith) (inl (omega arith))) in record { value = e; encoded = encoded_at c.args.s.now c.args.«at» _ e }
+pub returns-in_default : goal.returns-in_default
+returns-in_default c = let e = sym (no_lead c.args.s.now c.args.«at» (omega arith) (inl (omega arith))) in record { value = e; encoded = encoded_at c.args.s.now c.args.«at» _ e }
 
-pub returns-in-default·2 : goal.returns-in-default·2
-returns-in-default·2 c = let e = sym (no_lead c.args.s.now c.args.«at» (omega arith) (inr (omega arith))) in record { value = e; encoded = encoded_at c.args.s.now c.args.«at» _ e }
+pub returns-in_default-2 : goal.returns-in_default-2
+returns-in_default-2 c = let e = sym (no_lead c.args.s.now c.args.«at» (omega arith) (inr (omega arith))) in record { value = e; encoded = encoded_at c.args.s.now c.args.«at» _ e }

@@ -7,12 +7,12 @@ loop-c-preserved c = walked_more c.args.s.now c.loop-c.«at» c.in-Some.c c.loop
 
 pub returns-then-at-s : goal.returns-then-at-s
 returns-then-at-s c =
-    let p = walked_end c.args.s.now c.loop-c.«at» c.loop-c.invariant (sym c.in-default.ensures.value) in
+    let p = walked_end c.args.s.now c.loop-c.«at» c.loop-c.invariant (sym c.in_default.ensures.value) in
     let a = agrees_err c.args.s.now c.loop-c.«at» p (omega arith) in
     record { value = a.0; agrees = a.1 }
 
 pub returns-else-at-s : goal.returns-else-at-s
 returns-else-at-s c =
-    let p = walked_end c.args.s.now c.loop-c.«at» c.loop-c.invariant (sym c.in-default.ensures.value) in
+    let p = walked_end c.args.s.now c.loop-c.«at» c.loop-c.invariant (sym c.in_default.ensures.value) in
     let a = agrees_ok c.args.s.now c.loop-c.«at» p (omega arith) in
     record { value = a.0; agrees = a.1 }

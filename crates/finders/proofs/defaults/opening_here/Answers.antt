@@ -17,5 +17,5 @@ returns-in-37 c = λ b. search (rules, at_block)
 pub returns-in-35 : goal.returns-in-35
 returns-in-35 c = λ b. search (rules, at_comment)
 
-pub returns-in-default : goal.returns-in-default
-returns-in-default c = λ b. search (rules, at_other)
+pub returns-in_default : goal.returns-in_default
+returns-in_default c = λ b. search (rules, at_other)

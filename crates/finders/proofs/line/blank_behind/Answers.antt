@@ -8,5 +8,5 @@ returns-in-13 c = λ bs e. sym (end_byte c.args.b bs c.in-13.is)
 pub returns-in-32 : goal.returns-in-32
 returns-in-32 c = λ bs e. e ∙ sym (blank_byte c.args.b bs c.in-32.is)
 
-pub returns-in-default : goal.returns-in-default
-returns-in-default c = λ bs e. sym (other_byte c.args.b bs (search rules) (search rules) (search rules) (search rules))
+pub returns-in_default : goal.returns-in_default
+returns-in_default c = λ bs e. sym (other_byte c.args.b bs (search rules) (search rules) (search rules) (search rules))

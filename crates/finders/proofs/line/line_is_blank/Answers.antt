@@ -16,8 +16,8 @@ loop-i-preserved c =
     let i = c.loop-i.i in
     (omega arith, c.loop-i.invariant.1 ∙ line_back xs i (omega arith) (omega arith) ∙ blank_byte (get_or xs (i - 1) 0) (reverse (take (i - 1) xs)) c.in-32.is)
 
-pub returns-in-default : goal.returns-in-default
-returns-in-default c =
+pub returns-in_default : goal.returns-in_default
+returns-in_default c =
     let xs = c.args.source.now in
     let i = c.loop-i.i in
     sym (c.loop-i.invariant.1 ∙ line_back xs i (omega arith) (omega arith) ∙ other_byte (get_or xs (i - 1) 0) (reverse (take (i - 1) xs)) (search rules) (search rules) (search rules) (search rules))

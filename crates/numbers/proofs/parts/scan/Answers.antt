@@ -8,8 +8,8 @@ loop-len-init c = search (rules, read_none)
 
 pub returns-in-None : goal.returns-in-None
 returns-in-None c =
-    let e : (c.loop-len.len, c.loop-len.state) ≡ scan c.args.radix c.args.after-dot c.args.start c.args.rest.now = search (rules, read_stop) in
-    record { value = e; longest = longest_at c.args.radix c.args.after-dot c.args.start c.args.rest.now (c.loop-len.len, c.loop-len.state) e }
+    let e : (c.loop-len.len, c.loop-len.state) ≡ scan c.args.radix c.args.after_dot c.args.start c.args.rest.now = search (rules, read_stop) in
+    record { value = e; longest = longest_at c.args.radix c.args.after_dot c.args.start c.args.rest.now (c.loop-len.len, c.loop-len.state) e }
 
 pub loop-len-preserved : goal.loop-len-preserved
 loop-len-preserved c = search (rules, read_more)
@@ -17,5 +17,5 @@ loop-len-preserved c = search (rules, read_more)
 pub returns : goal.returns
 returns c =
     let z : length c.args.rest.now ≡ c.loop-len.len = omega arith in
-    let e = ap (λ n. (n, c.loop-len.state)) z ∙ read_all c.args.radix c.args.after-dot c.args.start c.args.rest.now c.loop-len.state c.loop-len.len c.loop-len-test.false c.loop-len.invariant in
-    record { value = e; longest = longest_at c.args.radix c.args.after-dot c.args.start c.args.rest.now (length c.args.rest.now, c.loop-len.state) e }
+    let e = ap (λ n. (n, c.loop-len.state)) z ∙ read_all c.args.radix c.args.after_dot c.args.start c.args.rest.now c.loop-len.state c.loop-len.len c.loop-len-test.false c.loop-len.invariant in
+    record { value = e; longest = longest_at c.args.radix c.args.after_dot c.args.start c.args.rest.now (length c.args.rest.now, c.loop-len.state) e }

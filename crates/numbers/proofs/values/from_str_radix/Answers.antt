@@ -9,25 +9,25 @@ loop-c-preserved-then-c-eq95 c = (
   walked_underscore c.args.radix c.args.digits.now c.loop-c.c-index c.loop-c.value c.loop-c-test.true c.loop-c.invariant.2 c.if-c-eq95.true,
 )
 
-pub returns-in-err-to-digit : goal.returns-in-err-to-digit
-returns-in-err-to-digit c =
-    let e = c.from-residual.ensures ∙ walked_bad c.args.radix c.args.digits.now c.loop-c.c-index c.loop-c.value c.loop-c-test.true c.loop-c.invariant.2 c.if-c-eq95.false c.in-err-to-digit.ensures in
+pub returns-in_err-to_digit : goal.returns-in_err-to_digit
+returns-in_err-to_digit c =
+    let e = c.from-residual.ensures ∙ walked_bad c.args.radix c.args.digits.now c.loop-c.c-index c.loop-c.value c.loop-c-test.true c.loop-c.invariant.2 c.if-c-eq95.false c.in_err-to_digit.ensures in
     record { value = e; written = written_at c.args.radix c.args.digits.now c.from-residual.result e }
 
-pub returns-in-err-value : goal.returns-in-err-value
-returns-in-err-value c =
+pub returns-in_err-value : goal.returns-in_err-value
+returns-in_err-value c =
     let e =
-    c.from-residual-in-err-value.ensures
-    ∙ walked_over c.args.radix c.args.digits.now c.loop-c.c-index c.loop-c.value c.loop-c-test.true c.loop-c.invariant.2 c.in-ok-to-digit.field-0 c.if-c-eq95.false
-    c.in-ok-to-digit.ensures c.in-err-value.ensures in
-    record { value = e; written = written_at c.args.radix c.args.digits.now c.from-residual-in-err-value.result e }
+    c.from-residual-in_err-value.ensures
+    ∙ walked_over c.args.radix c.args.digits.now c.loop-c.c-index c.loop-c.value c.loop-c-test.true c.loop-c.invariant.2 c.in_ok-to_digit.field-0 c.if-c-eq95.false
+    c.in_ok-to_digit.ensures c.in_err-value.ensures in
+    record { value = e; written = written_at c.args.radix c.args.digits.now c.from-residual-in_err-value.result e }
 
 pub loop-c-preserved : goal.loop-c-preserved
 loop-c-preserved c = (
   c.loop-c.invariant.0,
-  subst (λ n. n < 2 ^ 128) (sym c.in-ok-value.ensures.1) c.in-ok-value.ensures.0,
-  walked_more c.args.radix c.args.digits.now c.loop-c.c-index c.loop-c.value c.loop-c-test.true c.loop-c.invariant.2 c.in-ok-to-digit.field-0 c.in-ok-value.value
-      c.if-c-eq95.false c.in-ok-to-digit.ensures c.in-ok-value.ensures.1,
+  subst (λ n. n < 2 ^ 128) (sym c.in_ok-value.ensures.1) c.in_ok-value.ensures.0,
+  walked_more c.args.radix c.args.digits.now c.loop-c.c-index c.loop-c.value c.loop-c-test.true c.loop-c.invariant.2 c.in_ok-to_digit.field-0 c.in_ok-value.value
+      c.if-c-eq95.false c.in_ok-to_digit.ensures c.in_ok-value.ensures.1,
 )
 
 pub returns : goal.returns

@@ -4,7 +4,7 @@ use Rattle.syntax.proofs.table.entry.Goals as goal
 
 pub returns : goal.returns
 returns c = record {
-  value = table_read c.args.delims.now c.args.which c.index.result _ c.as-bytes.result.now c.index.ensures.value (omega arith) c.as-bytes.ensures.value;
-  fits = c.as-bytes.ensures.fits;
-  text = c.as-bytes.ensures.text;
+  value = table_read c.args.delims.now c.args.which c.index.result _ c.as_bytes.result.now c.index.ensures.value (omega arith) c.as_bytes.ensures.value;
+  fits = c.as_bytes.ensures.fits;
+  text = c.as_bytes.ensures.text;
 }

@@ -7,7 +7,7 @@ use Rattle.std.proofs.lemmas.Bool.Decides.{Decides-eqb}
 
 pub returns-then-eq : goal.returns-then-eq
 returns-then-eq c =
-    repeats_by (table_of c.args.delims.now) c.args.earlier.now c.args.name _ _ c.entry-bytes.ensures.value c.if-is-empty.ensures
+    repeats_by (table_of c.args.delims.now) c.args.earlier.now c.args.name _ _ c.entry-bytes.ensures.value c.if-is_empty.ensures
     (same_here (table_of c.args.delims.now) c.args.earlier.now c.loop-other.other-index c.entry-bytes.result.now c.loop-other-test.true c.loop-other.invariant
     (test_same _ _ _ _ c.entry.ensures.value (slice_eq-Decides Decides-eqb _ _ _ c.eq.ensures) ∙ c.if-eq.true))
 
@@ -18,5 +18,5 @@ loop-other-preserved c =
 
 pub returns : goal.returns
 returns c =
-    repeats_by (table_of c.args.delims.now) c.args.earlier.now c.args.name _ _ c.entry-bytes.ensures.value c.if-is-empty.ensures
+    repeats_by (table_of c.args.delims.now) c.args.earlier.now c.args.name _ _ c.entry-bytes.ensures.value c.if-is_empty.ensures
     (same_all (table_of c.args.delims.now) c.args.earlier.now c.loop-other.other-index c.entry-bytes.result.now c.loop-other-test.false c.loop-other.invariant)

@@ -7,4 +7,4 @@ returns-in-45 c =
     let ys = c.args.rest.now in
     let h : 0 < length ys = search rules in
     let q : (get_or ys 0 0 ≡ 45) ⊎ (get_or ys 0 0 ≡ 43) = search rules in
-    signed_yes c.args.end.now ys c.starts-with-bytes.result h q c.starts-with-bytes.ensures.value
+    signed_yes c.args.end.now ys c.starts_with_bytes.result h q c.starts_with_bytes.ensures.value

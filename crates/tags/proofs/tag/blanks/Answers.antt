@@ -10,4 +10,4 @@ returns-in-0 c behind x xs d f =
     let k = c.args.sentinel in
     let b = c.args.balance in
     let g = at_balance (λ z. inside s behind k z x xs) b c.inside.result c.ranges.balance (c.inside.ensures behind x xs d f) in
-    blanks_none s behind k b x xs c.args.rest.now c.inside.result f (sym c.in-0.is ∙ c.blank-run.ensures.value) g
+    blanks_none s behind k b x xs c.args.rest.now c.inside.result f (sym c.in-0.is ∙ c.blank_run.ensures.value) g

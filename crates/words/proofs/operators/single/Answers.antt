@@ -82,8 +82,8 @@ pub returns-in-125 : goal.returns-in-125
 unfolding first_standing stands_at
 returns-in-125 c rest = single_at _ c.args.b 125 rest c.in-125.is refl
 
-pub returns-in-default : goal.returns-in-default
-returns-in-default c rest =
+pub returns-in_default : goal.returns-in_default
+returns-in_default c rest =
     let b = c.args.b in
     let n : (k : ℕ) → (k ≡ b → ⊥) → stands_at (k ∷ []) (b ∷ rest) ≡ false = λ k. stands_other k b [] rest in
     none_stands singles (b ∷ rest)

@@ -4,5 +4,5 @@ use Rattle.escape.proofs.unescaper.Unescaper.byte_escape.Goals as goal
 
 pub returns : goal.returns
 returns c =
-    let h = c.in-ok-code.ensures.value in
+    let h = c.in_ok-code.ensures.value in
     record { value = search (rules, byte_told); onward = search rules }

@@ -90,36 +90,36 @@ pub returns-in-u : goal.returns-in-u
 returns-in-u c =
     let h = c.in-Some.ensures.value in
     record {
-      value = as_unicode (coming c.args.self.now) (coming c.peek.new.self) (coming c.unicode-escape.new.self) c.in-Some.c c.unicode-escape.result h.0 h.1 c.peek.ensures.same c.in-u.is c.unicode-escape.ensures.value;
-      onward = onward_trans _ _ _ c.peek.ensures.onward c.unicode-escape.ensures.onward;
+      value = as_unicode (coming c.args.self.now) (coming c.peek.new.self) (coming c.unicode_escape.new.self) c.in-Some.c c.unicode_escape.result h.0 h.1 c.peek.ensures.same c.in-u.is c.unicode_escape.ensures.value;
+      onward = onward_trans _ _ _ c.peek.ensures.onward c.unicode_escape.ensures.onward;
     }
 
 pub returns-in-x : goal.returns-in-x
 returns-in-x c =
     let h = c.in-Some.ensures.value in
     record {
-      value = as_byte (coming c.args.self.now) (coming c.peek.new.self) (coming c.byte-escape.new.self) c.in-Some.c c.byte-escape.result h.0 h.1 c.peek.ensures.same c.in-x.is c.byte-escape.ensures.value;
-      onward = onward_trans _ _ _ c.peek.ensures.onward c.byte-escape.ensures.onward;
+      value = as_byte (coming c.args.self.now) (coming c.peek.new.self) (coming c.byte_escape.new.self) c.in-Some.c c.byte_escape.result h.0 h.1 c.peek.ensures.same c.in-x.is c.byte_escape.ensures.value;
+      onward = onward_trans _ _ _ c.peek.ensures.onward c.byte_escape.ensures.onward;
     }
 
 pub returns-in-0-to-7 : goal.returns-in-0-to-7
 returns-in-0-to-7 c =
     let h = c.in-Some.ensures.value in
     record {
-      value = as_octal (coming c.args.self.now) (coming c.peek.new.self) (coming c.octal-escape.new.self) c.in-Some.c c.octal-escape.result h.0 h.1 c.peek.ensures.same (search rules) (search rules) c.octal-escape.ensures.value;
-      onward = onward_trans _ _ _ c.peek.ensures.onward c.octal-escape.ensures.onward;
+      value = as_octal (coming c.args.self.now) (coming c.peek.new.self) (coming c.octal_escape.new.self) c.in-Some.c c.octal_escape.result h.0 h.1 c.peek.ensures.same (search rules) (search rules) c.octal_escape.ensures.value;
+      onward = onward_trans _ _ _ c.peek.ensures.onward c.octal_escape.ensures.onward;
     }
 
-pub returns-in-default-c : goal.returns-in-default-c
-returns-in-default-c c =
+pub returns-in_default-c : goal.returns-in_default-c
+returns-in_default-c c =
     let h = c.in-Some.ensures.value in
     record {
       value = as_other (coming c.args.self.now) (coming c.peek.new.self) c.in-Some.c h.0 h.1 c.peek.ensures.same (omega arith) (omega arith) (omega arith) (omega arith) (omega arith) (omega arith) (omega arith) (omega arith) (omega arith) (omega arith) (omega arith) (inl (search rules));
       onward = c.peek.ensures.onward;
     }
 
-pub returns-in-default-c·2 : goal.returns-in-default-c·2
-returns-in-default-c·2 c =
+pub returns-in_default-c-2 : goal.returns-in_default-c-2
+returns-in_default-c-2 c =
     let h = c.in-Some.ensures.value in
     record {
       value = as_other (coming c.args.self.now) (coming c.peek.new.self) c.in-Some.c h.0 h.1 c.peek.ensures.same (omega arith) (omega arith) (omega arith) (omega arith) (omega arith) (omega arith) (omega arith) (omega arith) (omega arith) (omega arith) (omega arith) (inr (search rules));

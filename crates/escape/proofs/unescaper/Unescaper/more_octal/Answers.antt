@@ -10,11 +10,11 @@ returns-in-0-to-7 c = let h = c.in-Some.ensures.value in
 pub returns-in-0-to-7-2 : goal.returns-in-0-to-7-2
 returns-in-0-to-7-2 c = let h = c.in-Some.ensures.value in record { value = search (rules, more_over); onward = search rules }
 
-pub returns-in-default : goal.returns-in-default
-returns-in-default c = let h = c.in-Some.ensures.value in record { value = search (rules, more_below); onward = search rules }
+pub returns-in_default : goal.returns-in_default
+returns-in_default c = let h = c.in-Some.ensures.value in record { value = search (rules, more_below); onward = search rules }
 
-pub returns-in-default·2 : goal.returns-in-default·2
-returns-in-default·2 c = let h = c.in-Some.ensures.value in record { value = search (rules, more_above); onward = search rules }
+pub returns-in_default-2 : goal.returns-in_default-2
+returns-in_default-2 c = let h = c.in-Some.ensures.value in record { value = search (rules, more_above); onward = search rules }
 
 pub returns-in-None : goal.returns-in-None
 returns-in-None c = let h = c.in-None.ensures.value in record { value = search (rules, more_none); onward = search rules }

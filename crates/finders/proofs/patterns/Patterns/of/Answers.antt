@@ -10,9 +10,9 @@ pub loop-marker-preserved : goal.loop-marker-preserved
 loop-marker-preserved c =
     let t = setting_of c.args.settings.now in
     let i = c.loop-marker.marker-index in (
-      omega (arith, c.enter-opening.ensures.count),
-      enters_more t markers i Variable (openings_in c.loop-marker.patterns) (openings_in c.enter-opening.new.self) c.delimiter.result.now c.loop-marker-test.true
-          (c.delimiter.ensures.value ∙ ap t c.opener.ensures) c.enter-opening.ensures.value c.loop-marker.invariant.1,
+      omega (arith, c.enter_opening.ensures.count),
+      enters_more t markers i Variable (openings_in c.loop-marker.patterns) (openings_in c.enter_opening.new.self) c.delimiter.result.now c.loop-marker-test.true
+          (c.delimiter.ensures.value ∙ ap t c.opener.ensures) c.enter_opening.ensures.value c.loop-marker.invariant.1,
     )
 
 pub returns : goal.returns

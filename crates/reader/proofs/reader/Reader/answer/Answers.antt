@@ -6,8 +6,8 @@ use Rattle.reader.specs.Views.{view_of, tell_by}
 use Rattle.reader.proofs.Acts.{at_end, piece_answer, piece_after, cut_answer, cut_after, end_answer, end_after, fault_answer, fault_after}
 use Rattle.reader.proofs.reader.Reader.answer.Goals as goal
 
-pub take-step-requires : goal.take-step-requires
-take-step-requires c = subst (λ v. Fits (c.args.self.now.left - c.args.self.now.offset) c.args.self.now.state c.args.self.now.pending v) c.in-Piece.is c.requires.fits
+pub take_step-requires : goal.take_step-requires
+take_step-requires c = subst (λ v. Fits (c.args.self.now.left - c.args.self.now.offset) c.args.self.now.state c.args.self.now.pending v) c.in-Piece.is c.requires.fits
 
 pub returns-in-Piece : goal.returns-in-Piece
 returns-in-Piece c =
@@ -18,13 +18,13 @@ returns-in-Piece c =
     let h : r.offset + s.len ≤ r.left = omega (arith, f.ahead) in
     let g = sym (ap (λ v. tell_by (view_of r) (act (view_of r).core v)) c.in-Piece.is) in
     record {
-      value = piece_answer r.template.now r.left r.offset r.state r.pending r.cut_told r.balance r.told s c.take-step.result h c.take-step.ensures.piece ∙ ap (λ x. x.answer) g;
-      view = piece_after r.template.now r.left r.offset r.state r.pending r.cut_told r.balance r.told s (view_of c.take-step.new.self) h c.requires.untold c.take-step.ensures.view ∙ ap (λ x. x.after) g;
-      settings = c.take-step.ensures.settings;
+      value = piece_answer r.template.now r.left r.offset r.state r.pending r.cut_told r.balance r.told s c.take_step.result h c.take_step.ensures.piece ∙ ap (λ x. x.answer) g;
+      view = piece_after r.template.now r.left r.offset r.state r.pending r.cut_told r.balance r.told s (view_of c.take_step.new.self) h c.requires.untold c.take_step.ensures.view ∙ ap (λ x. x.after) g;
+      settings = c.take_step.ensures.settings;
     }
 
-pub take-cut-requires : goal.take-cut-requires
-take-cut-requires c = let i = c.args.self.now.inside in at_end c.args.self.now.left c.args.self.now.offset c.args.self.now.state c.args.self.now.pending c.args.verdict c.in-End.is c.requires.fits (omega arith)
+pub take_cut-requires : goal.take_cut-requires
+take_cut-requires c = let i = c.args.self.now.inside in at_end c.args.self.now.left c.args.self.now.offset c.args.self.now.state c.args.self.now.pending c.args.verdict c.in-End.is c.requires.fits (omega arith)
 
 pub returns-then-self : goal.returns-then-self
 returns-then-self c =
@@ -33,9 +33,9 @@ returns-then-self c =
     let h = at_end r.left r.offset r.state r.pending c.args.verdict c.in-End.is c.requires.fits (omega arith) in
     let g = sym (ap (λ v. tell_by (view_of r) (act (view_of r).core v)) c.in-End.is) in
     record {
-      value = cut_answer r.template.now r.left r.offset r.state r.pending r.cut_told r.balance r.told c.take-cut.result h (omega arith) c.take-cut.ensures.piece ∙ ap (λ x. x.answer) g;
-      view = cut_after r.template.now r.left r.offset r.state r.pending r.cut_told r.balance r.told (view_of c.take-cut.new.self) h (omega arith) c.requires.untold r.agrees c.take-cut.ensures.view ∙ ap (λ x. x.after) g;
-      settings = c.take-cut.ensures.settings;
+      value = cut_answer r.template.now r.left r.offset r.state r.pending r.cut_told r.balance r.told c.take_cut.result h (omega arith) c.take_cut.ensures.piece ∙ ap (λ x. x.answer) g;
+      view = cut_after r.template.now r.left r.offset r.state r.pending r.cut_told r.balance r.told (view_of c.take_cut.new.self) h (omega arith) c.requires.untold r.agrees c.take_cut.ensures.view ∙ ap (λ x. x.after) g;
+      settings = c.take_cut.ensures.settings;
     }
 
 pub returns-else-self : goal.returns-else-self

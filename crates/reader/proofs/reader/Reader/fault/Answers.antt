@@ -7,5 +7,5 @@ pub returns : goal.returns
 returns c =
     let r = c.args.self.now in
     ap (λ s. record { kind = c.args.kind; span = s })
-    (c.fault-span.ensures (place_at r.template.now r.offset) (place_at r.template.now (r.offset + c.args.distance)) r.here
+    (c.fault_span.ensures (place_at r.template.now r.offset) (place_at r.template.now (r.offset + c.args.distance)) r.here
     (advanced r.template.now r.offset c.args.distance c.after.result.now c.until.result.now r.place c.advance-end.result r.here c.after.ensures.value c.until.ensures.value c.advance-end.ensures.value))

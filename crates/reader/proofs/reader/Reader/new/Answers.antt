@@ -4,8 +4,8 @@ use Rattle.rules.specs.Config.{config_of}
 use Rattle.reader.proofs.Starts.{start_here, start_view, none_left}
 use Rattle.reader.proofs.reader.Reader.new.Goals as goal
 
-pub invariant-of-result : goal.invariant-of-result
-invariant-of-result c = (omega arith, (omega arith, (omega arith, (omega arith, (omega arith, (omega arith, (refl, (c.start.ensures.value ∙ start_here [], tt))))))))
+pub invariant_of-result : goal.invariant_of-result
+invariant_of-result c = (omega arith, (omega arith, (omega arith, (omega arith, (omega arith, (omega arith, (refl, (c.start.ensures.value ∙ start_here [], tt))))))))
 
 pub returns : goal.returns
 returns c = record { settings = refl; template = refl; view = start_view (config_of c.args.settings.now) Template [] 0 (none_left (config_of c.args.settings.now)) }

@@ -5,10 +5,10 @@ use Rattle.reader.proofs.Moves.{balance_flat}
 use Rattle.reader.proofs.Starts.{start_here, start_view}
 use Rattle.reader.proofs.reader.Reader.start.Goals as goal
 
-pub invariant-of-self : goal.invariant-of-self
-invariant-of-self c =
-    (c.requires.small, (c.left-len-left.ensures.within, (omega arith, (omega arith, (omega arith, (omega arith, (balance_flat c.args.state c.requires.flat, (c.start-self.ensures.value ∙ start_here c.args.template.now, tt))))))))
+pub invariant_of-self : goal.invariant_of-self
+invariant_of-self c =
+    (c.requires.small, (c.left_len-left.ensures.within, (omega arith, (omega arith, (omega arith, (omega arith, (balance_flat c.args.state c.requires.flat, (c.start-self.ensures.value ∙ start_here c.args.template.now, tt))))))))
 
 pub returns : goal.returns
 returns c =
-    record { settings = refl; template = refl; view = start_view (config_of c.args.self.now.settings) c.args.state c.args.template.now c.left-len-left.result c.left-len-left.ensures.value; leaves = left_words (config_of c.args.self.now.settings) c.args.template.now c.left-len-left.result c.left-len-left.ensures.value }
+    record { settings = refl; template = refl; view = start_view (config_of c.args.self.now.settings) c.args.state c.args.template.now c.left_len-left.result c.left_len-left.ensures.value; leaves = left_words (config_of c.args.self.now.settings) c.args.template.now c.left_len-left.result c.left_len-left.ensures.value }

@@ -5,8 +5,8 @@ use Rattle.rules.proofs.Whole.{place_end}
 use Rattle.reader.proofs.Moves.{advanced_all, told_at}
 use Rattle.reader.proofs.reader.Reader.take_cut.Goals as goal
 
-pub invariant-of-self : goal.invariant-of-self
-invariant-of-self c =
+pub invariant_of-self : goal.invariant_of-self
+invariant_of-self c =
     let r = c.args.self.now in
     let t = r.template.now in
     let e : r.offset ≡ r.left = c.requires in
@@ -51,10 +51,10 @@ returns c =
     let n : length t - r.offset ≡ length (drop r.left t) = omega arith in
     record {
       piece =
-          told_at t r.offset (length t) (cut_part t r.left) r.place c.advance-end.result c.text-range-text.result (omega arith) (omega arith) (omega arith)
+          told_at t r.offset (length t) (cut_part t r.left) r.place c.advance-end.result c.text_range-text.result (omega arith) (omega arith) (omega arith)
           (place_end t r.left r.offset e w) r.here
           (advanced_all t r.offset c.after.result.now r.place c.advance-end.result (omega arith) r.here c.after.ensures.value c.advance-end.ensures.value)
-          (c.text-range-text.ensures ∙ ap (λ k. record { start = r.offset + 0; end = r.offset + k }) n);
+          (c.text_range-text.ensures ∙ ap (λ k. record { start = r.offset + 0; end = r.offset + k }) n);
       view = refl;
       settings = refl;
     }

@@ -8,8 +8,8 @@ use Rattle.rules.proofs.Whole.{place_on}
 use Rattle.reader.proofs.Moves.{advanced, told_at, balance_level, balance_agrees}
 use Rattle.reader.proofs.reader.Reader.take_step.Goals as goal
 
-pub invariant-of-self : goal.invariant-of-self
-invariant-of-self c =
+pub invariant_of-self : goal.invariant_of-self
+invariant_of-self c =
     let r = c.args.self.now in
     let s = c.args.step in
     let fw = c.requires in
@@ -17,9 +17,9 @@ invariant-of-self c =
     let b = fw.level in
     let i = r.inside in
     let l = r.shallow in
-    let e : c.balance-at-balance.result ≡ balance_at r.balance s.state = search rules in
-    let f : SFits w64 c.balance-at-balance.result = search rules in
-    let z : to_z w64 (of_z w64 c.balance-at-balance.result) ≡ c.balance-at-balance.result = search to_z-of_z in (
+    let e : c.balance_at-balance.result ≡ balance_at r.balance s.state = search rules in
+    let f : SFits w64 c.balance_at-balance.result = search rules in
+    let z : to_z w64 (of_z w64 c.balance_at-balance.result) ≡ c.balance_at-balance.result = search to_z-of_z in (
       r.small,
       (
         r.within,
@@ -30,7 +30,7 @@ invariant-of-self c =
             (
               omega arith,
               (
-                subst (λ z. magnitude z ≤ r.offset + s.len) (sym z) (balance_level r.balance c.balance-at-balance.result s.state r.offset s.len e r.balanced (omega arith)),
+                subst (λ z. magnitude z ≤ r.offset + s.len) (sym z) (balance_level r.balance c.balance_at-balance.result s.state r.offset s.len e r.balanced (omega arith)),
                 (
                   subst (λ x. balance_at x s.state ≡ x) (sym (z ∙ e)) (balance_agrees r.balance s.state),
                   (
@@ -55,15 +55,15 @@ returns c =
     let w = r.within in
     let i = r.inside in
     let m = r.small in
-    let e : c.balance-at-balance.result ≡ balance_at r.balance s.state = search rules in
-    let f : SFits w64 c.balance-at-balance.result = search rules in
-    let z : to_z w64 (of_z w64 c.balance-at-balance.result) ≡ c.balance-at-balance.result = search to_z-of_z in
+    let e : c.balance_at-balance.result ≡ balance_at r.balance s.state = search rules in
+    let f : SFits w64 c.balance_at-balance.result = search rules in
+    let z : to_z w64 (of_z w64 c.balance_at-balance.result) ≡ c.balance_at-balance.result = search to_z-of_z in
     record {
       piece =
-          told_at r.template.now r.offset (r.offset + s.len) (part_at r.template.now r.offset s) r.place c.advance-end.result c.text-range-text.result
+          told_at r.template.now r.offset (r.offset + s.len) (part_at r.template.now r.offset s) r.place c.advance-end.result c.text_range-text.result
           (omega arith) fw.ordered (omega arith) (place_on r.template.now r.offset s.len) r.here
           (advanced r.template.now r.offset s.len c.after.result.now c.until.result.now r.place c.advance-end.result r.here c.after.ensures.value c.until.ensures.value c.advance-end.ensures.value)
-          c.text-range-text.ensures;
+          c.text_range-text.ensures;
       view =
           ap (λ b. record { core = core_at r.template.now r.left (r.offset + s.len) s.state s.pending r.cut_told; place = place_at r.template.now (r.offset + s.len); balance = b; told = r.told })
           (z ∙ e);

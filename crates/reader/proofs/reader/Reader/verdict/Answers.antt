@@ -4,8 +4,8 @@ use Rattle.reader.proofs.Acts.{ruled_at, fits_at}
 use Rattle.reader.proofs.Settings.{ended}
 use Rattle.reader.proofs.reader.Reader.verdict.Goals as goal
 
-pub verdict-at-requires : goal.verdict-at-requires
-verdict-at-requires g c =
+pub verdict_at-requires : goal.verdict_at-requires
+verdict_at-requires g c =
     let r = c.args.self.now in
     let l = c.until.ensures.len in
     let w = r.within in
@@ -19,8 +19,8 @@ returns g c =
     let r = c.args.self.now in
     let os = g.F.Finder.openings c.args.finder.now in
     let i = r.inside in
-    let v = ruled_at os (config r) r.template.now c.until.result.now r.left r.offset r.state r.pending r.cut_told c.verdict-at.result c.until.ensures.value (omega arith) c.verdict-at.ensures in
+    let v = ruled_at os (config r) r.template.now c.until.result.now r.left r.offset r.state r.pending r.cut_told c.verdict_at.result c.until.ensures.value (omega arith) c.verdict_at.ensures in
     record {
       value = v;
-      fits = fits_at os (g.met.F.Finder.filled c.args.finder.now) (config r) (ended r.settings) r.template.now r.left r.offset r.state r.pending r.cut_told r.within r.inside r.lively c.verdict-at.result v;
+      fits = fits_at os (g.met.F.Finder.filled c.args.finder.now) (config r) (ended r.settings) r.template.now r.left r.offset r.state r.pending r.cut_told r.within r.inside r.lively c.verdict_at.result v;
     }

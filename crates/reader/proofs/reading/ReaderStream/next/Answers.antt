@@ -6,12 +6,12 @@ use Rattle.reader.proofs.reading.ReaderStream.next.Goals as goal
 pub returns : goal.returns
 returns g c =
     let r = c.args.self.now in
-    let q = c.next-piece.new.self in
+    let q = c.next_piece.new.self in
     let os = g.F.Finder.openings c.args.finder.now in
-    let e = c.next-piece.ensures in
+    let e = c.next_piece.ensures in
     let f = fine_at r.template.now r.left r.offset r.state r.pending r.cut_told r.within r.inside r.lively in
     record {
-      tells = λ h. stream_tells os r.settings q.settings (view_of r) (view_of q) c.next-piece.result f e.settings e.value e.view h;
-      serves = λ qs h. stream_serves os r.settings q.settings (view_of r) (view_of q) c.next-piece.result f e.settings e.value e.view qs h;
-      falls = stream_falls os r.settings q.settings (view_of r) (view_of q) c.next-piece.result f e.settings e.value e.view (g.met.F.Finder.filled c.args.finder.now);
+      tells = λ h. stream_tells os r.settings q.settings (view_of r) (view_of q) c.next_piece.result f e.settings e.value e.view h;
+      serves = λ qs h. stream_serves os r.settings q.settings (view_of r) (view_of q) c.next_piece.result f e.settings e.value e.view qs h;
+      falls = stream_falls os r.settings q.settings (view_of r) (view_of q) c.next_piece.result f e.settings e.value e.view (g.met.F.Finder.filled c.args.finder.now);
     }

@@ -3,8 +3,8 @@ use Rattle.std.proofs.lemmas.List.{take_at}
 use Rattle.syntax.proofs.Texts.{text_front}
 use Rattle.syntax.proofs.delimiter.Delimiter.rewrite.Goals as goal
 
-pub invariant-of-self : goal.invariant-of-self
-invariant-of-self c = (c.requires.fits, (text_front c.copy-from-slice.new.self c.args.bytes.now _ c.copy-from-slice.ensures.after c.requires.text, tt))
+pub invariant_of-self : goal.invariant_of-self
+invariant_of-self c = (c.requires.fits, (text_front c.copy_from_slice.new.self c.args.bytes.now _ c.copy_from_slice.ensures.after c.requires.text, tt))
 
 pub returns : goal.returns
 returns c = search (rules, take_at)

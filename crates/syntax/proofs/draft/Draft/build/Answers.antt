@@ -17,12 +17,12 @@ returns-in-Some c =
       openings = tt;
     }
 
-pub returns-in-Some-first-equal : goal.returns-in-Some-first-equal
-returns-in-Some-first-equal c =
+pub returns-in-Some-first_equal : goal.returns-in-Some-first_equal
+returns-in-Some-first_equal c =
     let t = delim_of c.args.self.now in
     record {
-      told = told_build t None (Some c.in-Some-first-equal.name) c.in-default.ensures c.in-Some-first-equal.ensures;
-      found = (told_empty t None c.in-default.ensures, told_equal t (Some c.in-Some-first-equal.name) c.in-Some-first-equal.ensures);
+      told = told_build t None (Some c.in-Some-first_equal.name) c.in_default.ensures c.in-Some-first_equal.ensures;
+      found = (told_empty t None c.in_default.ensures, told_equal t (Some c.in-Some-first_equal.name) c.in-Some-first_equal.ensures);
       table = tt;
       flags = tt;
       openings = tt;
@@ -31,9 +31,9 @@ returns-in-Some-first-equal c =
 pub returns : goal.returns
 returns c =
     let t = delim_of c.args.self.now in
-    let fit : Fit t = (told_empty t None c.in-default.ensures, told_equal t None c.in-default-first-equal.ensures) in
+    let fit : Fit t = (told_empty t None c.in_default.ensures, told_equal t None c.in_default-first_equal.ensures) in
     record {
-      told = told_build t None None c.in-default.ensures c.in-default-first-equal.ensures;
+      told = told_build t None None c.in_default.ensures c.in_default-first_equal.ensures;
       found = fit;
       table = λ n. refl;
       flags = refl;
