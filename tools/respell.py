@@ -97,7 +97,7 @@ def main(argv):
     rewrite("crates.txt", lambda t: "".join(l if l.startswith("#") else rename_lists(l, crates) for l in t.splitlines(keepends=True)))
     for old, new in crates.items():
         if os.path.isdir(f"crates/{old}"):
-            subprocess.run(["git", "mv", f"crates/{old}", f"crates/{new}"], check=True)
+            os.rename(f"crates/{old}", f"crates/{new}")
     # imports stand in the order of their names
     for crate in sorted(os.listdir("crates")):
         if os.path.isdir(f"crates/{crate}/src"):
