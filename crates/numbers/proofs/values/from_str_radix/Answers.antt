@@ -11,16 +11,16 @@ loop-c-preserved-then-c-eq95 c = (
 
 pub returns-in_err-to_digit : goal.returns-in_err-to_digit
 returns-in_err-to_digit c =
-    let e = c.from-residual.ensures ∙ walked_bad c.args.radix c.args.digits.now c.loop-c.c-index c.loop-c.value c.loop-c-test.true c.loop-c.invariant.2 c.if-c-eq95.false c.in_err-to_digit.ensures in
-    record { value = e; written = written_at c.args.radix c.args.digits.now c.from-residual.result e }
+    let e = c.from_residual.ensures ∙ walked_bad c.args.radix c.args.digits.now c.loop-c.c-index c.loop-c.value c.loop-c-test.true c.loop-c.invariant.2 c.if-c-eq95.false c.in_err-to_digit.ensures in
+    record { value = e; written = written_at c.args.radix c.args.digits.now c.from_residual.result e }
 
 pub returns-in_err-value : goal.returns-in_err-value
 returns-in_err-value c =
     let e =
-    c.from-residual-in_err-value.ensures
+    c.from_residual-in_err-value.ensures
     ∙ walked_over c.args.radix c.args.digits.now c.loop-c.c-index c.loop-c.value c.loop-c-test.true c.loop-c.invariant.2 c.in_ok-to_digit.field-0 c.if-c-eq95.false
     c.in_ok-to_digit.ensures c.in_err-value.ensures in
-    record { value = e; written = written_at c.args.radix c.args.digits.now c.from-residual-in_err-value.result e }
+    record { value = e; written = written_at c.args.radix c.args.digits.now c.from_residual-in_err-value.result e }
 
 pub loop-c-preserved : goal.loop-c-preserved
 loop-c-preserved c = (

@@ -7,7 +7,7 @@ use Rattle.numbers.proofs.values.to_digit.Goals as goal
 pub returns-in_err-digit : goal.returns-in_err-digit
 returns-in_err-digit c =
     let e = hex_told c.to_digit.result c.args.c (subst (λ n. SomeIff c.to_digit.result (digit_value n < 16) (digit_value n)) c.from.ensures c.to_digit.ensures.value) in
-    c.from-residual.ensures ∙ digit_none c.args.radix c.args.c (e ∙ c.in_err-digit.was)
+    c.from_residual.ensures ∙ digit_none c.args.radix c.args.c (e ∙ c.in_err-digit.was)
 
 pub returns-then-digit-radix : goal.returns-then-digit-radix
 returns-then-digit-radix c =

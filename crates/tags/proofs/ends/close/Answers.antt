@@ -12,7 +12,7 @@ returns-then-not-is_balanced c x xs f =
 pub returns-in_err-end : goal.returns-in_err-end
 returns-in_err-end c x xs f =
     let z : is_zero c.args.balance ≡ true = search rules in
-    close_on (config_of c.args.settings.now) c.args.sentinel c.args.balance x xs None c.from-residual.result z c.in_err-end.ensures c.from-residual.ensures
+    close_on (config_of c.args.settings.now) c.args.sentinel c.args.balance x xs None c.from_residual.result z c.in_err-end.ensures c.from_residual.ensures
 
 pub returns : goal.returns
 returns c x xs f =

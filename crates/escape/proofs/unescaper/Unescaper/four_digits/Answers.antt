@@ -4,13 +4,13 @@ use Rattle.escape.proofs.Steps.{quad, quad_none, quad_half, quad_rest, onward_tr
 use Rattle.escape.proofs.unescaper.Unescaper.four_digits.Goals as goal
 
 pub returns-in_err-high : goal.returns-in_err-high
-returns-in_err-high c = let h = c.in_err-high.ensures.value in rw c.from-residual.ensures (search (rules, quad_none))
+returns-in_err-high c = let h = c.in_err-high.ensures.value in rw c.from_residual.ensures (search (rules, quad_none))
 
 pub returns-in_err-low : goal.returns-in_err-low
 returns-in_err-low c =
     let h = c.in_ok-high.ensures.value in
     let l = c.in_err-low.ensures.value in
-    rw c.from-residual-in_err-low.ensures
+    rw c.from_residual-in_err-low.ensures
     (record { value = quad_half c.in_ok-high.high (coming c.args.self.now) (coming c.two_digits.new.self) (coming c.two_digits-2.new.self) h l; rest = tt; onward = onward_trans _ _ _ c.two_digits.ensures.onward c.two_digits-2.ensures.onward })
 
 pub returns : goal.returns
