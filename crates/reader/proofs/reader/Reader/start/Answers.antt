@@ -7,7 +7,7 @@ use Rattle.reader.proofs.reader.Reader.start.Goals as goal
 
 pub invariant_of-self : goal.invariant_of-self
 invariant_of-self c =
-    (c.requires.small, (c.left_len-left.ensures.within, (omega arith, (omega arith, (omega arith, (omega arith, (balance_flat c.args.state c.requires.flat, (c.start-self.ensures.value ∙ start_here c.args.template.now, tt))))))))
+    record { small = c.requires.small; within = c.left_len-left.ensures.within; inside = omega arith; lively = omega arith; shallow = omega arith; balanced = omega arith; agrees = balance_flat c.args.state c.requires.flat; here = c.start-self.ensures.value ∙ start_here c.args.template.now }
 
 pub returns : goal.returns
 returns c =
