@@ -13,31 +13,17 @@ invariant_of-self c =
     let w = r.within in
     let i = r.inside in
     let s = r.shallow in
-    let b = r.balanced in (
-      r.small,
-      (
-        omega arith,
-        (
-          omega arith,
-          (
-            r.lively,
-            (
-              omega arith,
-              (
-                omega arith,
-                (
-                  r.agrees,
-                  (
-                    advanced_all t r.offset c.after.result.now r.place c.advance-end.result (omega arith) r.here c.after.ensures.value c.advance-end.ensures.value,
-                    tt,
-                  ),
-                ),
-              ),
-            ),
-          ),
-        ),
-      ),
-    )
+    let b = r.balanced in
+    record {
+      small = r.small;
+      within = omega arith;
+      inside = omega arith;
+      lively = r.lively;
+      shallow = omega arith;
+      balanced = omega arith;
+      agrees = r.agrees;
+      here = advanced_all t r.offset c.after.result.now r.place c.advance-end.result (omega arith) r.here c.after.ensures.value c.advance-end.ensures.value;
+    }
 
 pub returns : goal.returns
 returns c =

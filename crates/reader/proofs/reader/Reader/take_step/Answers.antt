@@ -19,31 +19,17 @@ invariant_of-self c =
     let l = r.shallow in
     let e : c.balance_at-balance.result ≡ balance_at r.balance s.state = search rules in
     let f : SFits w64 c.balance_at-balance.result = search rules in
-    let z : to_z w64 (of_z w64 c.balance_at-balance.result) ≡ c.balance_at-balance.result = search to_z-of_z in (
-      r.small,
-      (
-        r.within,
-        (
-          omega arith,
-          (
-            fw.lively,
-            (
-              omega arith,
-              (
-                subst (λ z. magnitude z ≤ r.offset + s.len) (sym z) (balance_level r.balance c.balance_at-balance.result s.state r.offset s.len e r.balanced (omega arith)),
-                (
-                  subst (λ x. balance_at x s.state ≡ x) (sym (z ∙ e)) (balance_agrees r.balance s.state),
-                  (
-                    advanced r.template.now r.offset s.len c.after.result.now c.until.result.now r.place c.advance-end.result r.here c.after.ensures.value c.until.ensures.value c.advance-end.ensures.value,
-                    tt,
-                  ),
-                ),
-              ),
-            ),
-          ),
-        ),
-      ),
-    )
+    let z : to_z w64 (of_z w64 c.balance_at-balance.result) ≡ c.balance_at-balance.result = search to_z-of_z in
+    record {
+      small = r.small;
+      within = r.within;
+      inside = omega arith;
+      lively = fw.lively;
+      shallow = omega arith;
+      balanced = subst (λ z. magnitude z ≤ r.offset + s.len) (sym z) (balance_level r.balance c.balance_at-balance.result s.state r.offset s.len e r.balanced (omega arith));
+      agrees = subst (λ x. balance_at x s.state ≡ x) (sym (z ∙ e)) (balance_agrees r.balance s.state);
+      here = advanced r.template.now r.offset s.len c.after.result.now c.until.result.now r.place c.advance-end.result r.here c.after.ensures.value c.until.ensures.value c.advance-end.ensures.value;
+    }
 
 pub returns : goal.returns
 returns c =
