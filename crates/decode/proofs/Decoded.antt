@@ -1,9 +1,8 @@
 -- A loop over what a text means.
-use Rattle.std.proofs.Common.{◌≡◌, ℕ, zero, suc, ◌+◌, ◌-◌, ◌<◌, ◌≤◌, Bool, true, false, eqb, List, [], ◌∷◌, ◌++◌, length, take, drop, Ok, IsUtf8, sym, refl, ap, ◌∙◌, subst, arith}
+use Rattle.std.proofs.Common.{◌≡◌, ℕ, ◌+◌, ◌-◌, ◌≤◌, true, false, eqb, List, ◌++◌, length, take, drop, Ok, IsUtf8, sym, refl, ap, ◌∙◌, arith}
 use lib.Utf8.{encode, encodes}
 use borrow.Rule.Slice.PartMut.{put_mid}
 use Rattle.std.proofs.lemmas.List.{length-append, length-take, drop-drop, append_assoc, append-nil, take_at, drop_at, take-append-drop}
-use Rattle.std.proofs.lemmas.Bool.{eq-eqb, ne_eqb}
 use Rattle.stream.specs.declared.answer.Answer.TheVariants.{Item, End}
 use Rattle.stream.specs.declared.answer.Ending.{Ending}
 use Rattle.stream.specs.declared.answer.Ending.TheVariants.{Finished, Failed}
@@ -12,7 +11,7 @@ use Rattle.utf8.specs.Utf8.{prefix}
 use Rattle.escape.specs.Characters.{closed}
 use Rattle.escape.specs.Escapes.{Unescaped}
 use Rattle.escape.specs.Faults.{number_of, place_of}
-use Rattle.decode.specs.Decoding.{Told, Done, Refused, answer, answer_of, unescapes, decode, length_of, length_told, IsText}
+use Rattle.decode.specs.Decoding.{Done, Refused, answer, answer_of, unescapes, decode, length_of, length_told, IsText}
 use Rattle.escape.specs.Meaning.{Tells}
 use Rattle.decode.proofs.Sizes.{decoded_few, decoded_utf8}
 

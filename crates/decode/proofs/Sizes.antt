@@ -1,5 +1,5 @@
 -- What is decoded is no longer than its text.
-use Rattle.std.proofs.Common.{◌≡◌, ℕ, zero, suc, ◌+◌, ◌-◌, ◌*◌, ◌<◌, ◌≤◌, Bool, true, false, ◌&&◌, eqb, leb, ◌⊎◌, List, [], ◌∷◌, ◌++◌, map, length, drop, Some, None, IsUtf8, Option, sym, refl, ap, ◌∙◌, subst, inl, inr, ⊎_elim, arith}
+use Rattle.std.proofs.Common.{◌≡◌, ℕ, zero, suc, ◌+◌, ◌-◌, ◌*◌, ◌<◌, ◌≤◌, Bool, true, false, eqb, leb, List, [], ◌∷◌, map, length, drop, Some, None, IsUtf8, Option, refl, ap, subst, arith}
 use lib.Utf8.{scalar, scalars, encode, encodes, low_scalar}
 use Rattle.std.proofs.lemmas.List.{length-append, length-drop, length-take}
 use Rattle.std.proofs.lemmas.Bool.{leb-true, and_from, and_parts}
@@ -14,7 +14,7 @@ use Rattle.utf8.specs.Utf8.{characters, prefix}
 use Rattle.utf8.proofs.Laws.{characters_scalars, prefix_front}
 use Rattle.escape.specs.declared.fault.DecodeFault.{DecodeFault}
 use Rattle.escape.specs.declared.fault.DecodeFault.TheVariants.{Escape}
-use Rattle.escape.specs.Escapes.{Indexed, within, Pair, Given, Gives, Bad, meant, simple, hex_value, hex_from, is_octal, octal_from, is_high, is_low, joined, begins, low_half, partner, unicode, byte_escape, longer, decides, escape, Unescaped, first, ends, passed, unescaped_from, unescaped}
+use Rattle.escape.specs.Escapes.{Indexed, Pair, Given, Gives, Bad, meant, simple, hex_value, hex_from, is_octal, octal_from, is_high, is_low, joined, begins, low_half, partner, unicode, byte_escape, decides, escape, Unescaped, first, ends, passed, unescaped_from, unescaped}
 
 -- an escape that gives v and takes n of cs: v is a scalar value, and its UTF-8 is no longer than the escape
 abbrev pub Fits : List Indexed → Given → Type 0

@@ -1,5 +1,5 @@
 -- How the characters of a text end, step by step.
-use Rattle.std.proofs.Common.{◌≡◌, ℕ, zero, suc, ◌+◌, ◌-◌, ◌<◌, ◌≤◌, Bool, true, false, eqb, List, [], ◌∷◌, length, drop, Some, None, sym, refl, ap, ◌∙◌, subst, ⊎_elim, arith}
+use Rattle.std.proofs.Common.{◌≡◌, ℕ, ◌+◌, ◌<◌, ◌≤◌, Bool, true, false, eqb, List, [], ◌∷◌, length, drop, Some, None, sym, ap, ◌∙◌, ⊎_elim, arith}
 use Rattle.std.proofs.lemmas.List.{length-drop, drop-drop}
 use Rattle.std.proofs.lemmas.Bool.{eq-eqb, ne_eqb, cases_eq}
 use Rattle.stream.specs.declared.answer.Ending.{Ending}
@@ -7,7 +7,7 @@ use Rattle.stream.specs.declared.answer.Ending.TheVariants.{Finished, Failed}
 use Rattle.utf8.specs.declared.Char.{Char}
 use Rattle.utf8.specs.declared.NotUtf8.{NotUtf8}
 use Rattle.utf8.specs.Utf8.{char_at, characters, prefix}
-use Rattle.utf8.proofs.Laws.{characters_none, characters_more, char_width, prefix_none, prefix_more, prefix_le}
+use Rattle.utf8.proofs.Laws.{characters_none, characters_more, char_width, prefix_none, prefix_more}
 use Rattle.escape.specs.Characters.{closed}
 
 -- the ending at a place, by the test of the lengths

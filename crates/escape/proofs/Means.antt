@@ -1,13 +1,13 @@
 -- One step of what the characters of a text mean.
-use Rattle.std.proofs.Common.{◌≡◌, ℕ, zero, suc, ◌+◌, ◌-◌, ◌<◌, ◌≤◌, Bool, true, false, eqb, List, [], ◌∷◌, length, drop, Some, None, Option, sym, refl, ap, ◌∙◌, subst}
+use Rattle.std.proofs.Common.{◌≡◌, ℕ, zero, suc, true, false, List, [], ◌∷◌, drop, Some, None, sym, refl, ap, ◌∙◌}
 use Rattle.std.proofs.lemmas.Bool.{eq-eqb, ne_eqb}
 use Rattle.stream.specs.Told.{Next}
 use Rattle.stream.specs.declared.answer.Answer.TheVariants.{Item, End}
 use Rattle.stream.specs.declared.answer.Ending.{Ending}
-use Rattle.stream.specs.declared.answer.Ending.TheVariants.{Finished, Failed}
+use Rattle.stream.specs.declared.answer.Ending.TheVariants.{Failed}
 use Rattle.utf8.specs.declared.NotUtf8.{NotUtf8 as Illformed}
 use Rattle.escape.specs.declared.fault.DecodeFault.{DecodeFault}
-use Rattle.escape.specs.declared.fault.DecodeFault.TheVariants.{NotUtf8, Escape}
+use Rattle.escape.specs.declared.fault.DecodeFault.TheVariants.{Escape}
 use Rattle.escape.specs.declared.fault.BadEscape.{BadEscape}
 use Rattle.escape.specs.declared.unescaper.Unescaper.{Unescaper}
 use Rattle.utf8.specs.Utf8.{characters}

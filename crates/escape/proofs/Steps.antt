@@ -1,14 +1,13 @@
 -- One step of each definition of the escapes.
-use Rattle.std.proofs.Common.{◌≡◌, ℕ, zero, suc, ◌+◌, ◌-◌, ◌*◌, ◌<◌, ◌≤◌, Bool, true, false, eqb, ltb, leb, ◌⊎◌, List, [], ◌∷◌, length, get_or, drop, Some, None, Option, sym, refl, ap, ◌∙◌, subst, ⊎_elim, arith}
+use Rattle.std.proofs.Common.{◌≡◌, ℕ, zero, suc, ◌+◌, ◌-◌, ◌*◌, ◌<◌, ◌≤◌, true, false, leb, ◌⊎◌, List, [], ◌∷◌, length, get_or, drop, Some, None, Option, sym, refl, ap, ◌∙◌, subst, ⊎_elim, arith}
 use lib.Utf8.{scalar, low_scalar}
 use Rattle.std.proofs.lemmas.List.{drop-drop}
-use Rattle.std.proofs.lemmas.Bool.{le-leb, lt-leb, eq-eqb}
+use Rattle.std.proofs.lemmas.Bool.{le-leb, lt-leb}
 use Rattle.std.proofs.lemmas.Bool.Decides.{nat_tests}
 use Rattle.std.specs.Char.{digit_value}
 use Rattle.std.specs.Option.{SomeIff}
-use Rattle.escape.specs.declared.unescaper.Octal.{Octal}
 use Rattle.escape.specs.declared.unescaper.Octal.TheVariants.{Digit, Over, Stop}
-use Rattle.escape.specs.Escapes.{Indexed, within, hex_value, hex_from, is_octal, octal_from, Given, Gives, Bad, byte_escape, begins, is_low, is_high, joined, low_half, partner, unicode, simple, meant, longer, decides, escape}
+use Rattle.escape.specs.Escapes.{Indexed, hex_value, hex_from, is_octal, octal_from, Given, Gives, Bad, byte_escape, unicode, simple, meant, longer, decides, escape}
 use Rattle.escape.specs.declared.unescaper.Unescaper.{Unescaper}
 use Rattle.escape.specs.Meaning.{Onward, HexDigit, HexPair, Took, MoreOctal}
 

@@ -4,7 +4,7 @@ use Rattle.std.specs.Option.{option_to_list}
 use Rattle.stream.specs.Told.{Next}
 use Rattle.stream.specs.declared.answer.Answer.{Answer}
 use Rattle.stream.specs.declared.answer.Ending.{Ending}
-use Rattle.stream.specs.declared.answer.Ending.TheVariants.{Finished, Failed}
+use Rattle.stream.specs.declared.answer.Ending.TheVariants.{Failed}
 use Rattle.utf8.specs.declared.NotUtf8.{NotUtf8}
 use Rattle.escape.specs.declared.fault.BadEscape.{BadEscape}
 use Rattle.escape.specs.declared.fault.DecodeFault.{DecodeFault}

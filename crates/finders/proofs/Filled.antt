@@ -1,5 +1,5 @@
 -- Every opening of a finder has a byte.
-use Rattle.std.proofs.Common.{◌≡◌, ℕ, zero, suc, ◌<◌, ◌≤◌, List, [], ◌∷◌, length, drop, ap, subst, ⊎_elim, arith}
+use Rattle.std.proofs.Common.{ℕ, zero, suc, ◌<◌, List, [], ◌∷◌, length, drop, subst, ⊎_elim, arith}
 use Rattle.finder.specs.declared.StartMarker.TheVariants.{Variable, Block, Comment}
 use Rattle.finder.specs.Finding.{Opening, Filled}
 use Rattle.finder.proofs.Longest.{has_cases, has_none}

@@ -1,5 +1,5 @@
 -- The character that ends at the end, found by stepping back to the byte that leads it.
-use Rattle.std.proofs.Common.{◌≡◌, ℕ, zero, suc, ◌+◌, ◌-◌, ◌<◌, ◌≤◌, true, ◌⊎◌, List, [], ◌++◌, length, get_or, drop, Some, None, Option, sym, ap, ◌∙◌, subst, ⊎_elim, arith}
+use Rattle.std.proofs.Common.{◌≡◌, ℕ, zero, suc, ◌+◌, ◌-◌, ◌<◌, ◌≤◌, true, List, [], ◌++◌, length, get_or, drop, Some, None, Option, sym, ap, ◌∙◌, subst, ⊎_elim, arith}
 use lib.Utf8.{scalar, encode}
 use Rattle.std.proofs.lemmas.List.{append-nil, length-append, length-drop, drop_at, take_all, get_or-append-add}
 use Rattle.std.proofs.lemmas.Bool.{cases_lt}

@@ -1,5 +1,5 @@
 -- The laws of a run of characters at the end.
-use Rattle.std.proofs.Common.{◌≡◌, ℕ, zero, suc, ◌+◌, ◌-◌, ◌<◌, ◌≤◌, Bool, true, false, ◌⊎◌, List, [], ◌∷◌, ◌++◌, length, take, drop, Some, None, IsUtf8, sym, refl, ap, ◌∙◌, subst, ⊎_elim, arith, take-add}
+use Rattle.std.proofs.Common.{◌≡◌, ℕ, zero, suc, ◌+◌, ◌-◌, ◌<◌, ◌≤◌, Bool, true, false, List, [], ◌∷◌, ◌++◌, length, take, drop, Some, None, IsUtf8, sym, refl, ap, ◌∙◌, subst, ⊎_elim, arith, take-add}
 use lib.Utf8.{scalar, scalars, encode, encodes}
 use Rattle.std.specs.List.{AllByRecursion as All}
 use Rattle.utf8.specs.declared.Char.{Char}

@@ -1,5 +1,5 @@
 -- What settings hold, and their openings.
-use Rattle.std.specs.Prelude.{◌≡◌, ℕ, ◌<◌, ◌≤◌, true, false, List, [], ◌∷◌, length, ◌≢◌, slice_index_or}
+use Rattle.std.specs.Prelude.{ℕ, ◌<◌, ◌≤◌, true, false, List, [], ◌∷◌, length, ◌≢◌, slice_index_or}
 use Rattle.finder.specs.declared.StartMarker.{StartMarker}
 use Rattle.finder.specs.Finding.{Opening}
 use Rattle.syntax.specs.declared.settings.Settings.{Settings}

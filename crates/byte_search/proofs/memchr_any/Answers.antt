@@ -1,4 +1,4 @@
-use Rattle.std.proofs.Common.{◌<◌, length, Some, None, refl, sym, ◌∙◌, arith, below_more}
+use Rattle.std.proofs.Common.{◌<◌, length, Some, None, sym, ◌∙◌, arith, below_more}
 use Rattle.std.proofs.lemmas.Bool.{eq-eqb, eqb-true, false≢true}
 use Rattle.byte_search.specs.Search.{First, HoldsAny}
 use Rattle.byte_search.proofs.Firsts.{first_in_by}
