@@ -1,7 +1,7 @@
 -- What a call does to a view of a reader at a place of a template.
 use Rattle.std.proofs.Common.{◌≡◌, ℕ, ◌+◌, ◌-◌, ◌<◌, ◌≤◌, Bool, true, List, [], length, take, drop, ℤ, Some, None, Option, sym, refl, ap, ◌∙◌, subst, arith}
 use Rattle.std.proofs.lemmas.List.{take-take}
-use Rattle.finder.specs.Finding.{Opening, Filled}
+use Rattle.finder.specs.Finding.{Opening}
 use Rattle.stream.specs.declared.answer.Answer.TheVariants.{Item, End as Ends}
 use Rattle.stream.specs.declared.answer.Ending.{Ending}
 use Rattle.stream.specs.declared.answer.Ending.TheVariants.{Finished, Failed}
@@ -83,6 +83,6 @@ behind_left t n i h = ap (λ l. pushes l []) (take-take i n t h)
 pub ruled_at : (os : List Opening) (s : Config) (t u : List ℕ) (n i : ℕ) (m : LexerState) (w : Pending) (e : Bool) (v : Verdict) → u ≡ take n t → i ≤ n → v ≡ verdict_by os s (behind_at u i) (drop i u) m w → v ≡ verdict os s (core_at t n i m w e)
 ruled_at os s t u n i m w e v a h q = q ∙ ap (λ l. verdict_by os s (behind_at l i) (drop i l) m w) a ∙ ap (λ l. verdict_by os s l (drop i (take n t)) m w) (behind_left t n i h)
 
-pub fits_at : (os : List Opening) → Filled os → (s : Config) → Ended s → (t : List ℕ) (n i : ℕ) (m : LexerState) (w : Pending) (e : Bool) → n ≤ length t → i + held w ≤ n → 0 < least w → (v : Verdict) → v ≡ verdict os s (core_at t n i m w e) → Fits (n - i) m w v
-fits_at os filled s ends t n i m w e within inside lively v q =
-    subst (λ l. Fits l m w v) (ahead_length t n i within) (subst (λ x. Fits (length (drop i (take n t))) m w x) (sym q) (verdict_fits s os filled ends (core_at t n i m w e) (fine_at t n i m w e within inside lively)))
+pub fits_at : (os : List Opening) (s : Config) → Ended s → (t : List ℕ) (n i : ℕ) (m : LexerState) (w : Pending) (e : Bool) → n ≤ length t → i + held w ≤ n → 0 < least w → (v : Verdict) → v ≡ verdict os s (core_at t n i m w e) → Fits (n - i) m w v
+fits_at os s ends t n i m w e within inside lively v q =
+    subst (λ l. Fits l m w v) (ahead_length t n i within) (subst (λ x. Fits (length (drop i (take n t))) m w x) (sym q) (verdict_fits s os ends (core_at t n i m w e) (fine_at t n i m w e within inside lively)))

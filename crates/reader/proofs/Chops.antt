@@ -37,6 +37,7 @@ chop_none b (x ∷ xs) h = absurd (omega arith)
 -- in words
 
 chop_short : (b : ℕ) (xs : List ℕ) → take (length (chop b xs)) xs ≡ chop b xs
+unfolding chop
 chop_short b [] = chop_none b [] refl
 chop_short b (x ∷ xs) = ⊎_elim
     (λ e.

@@ -2,7 +2,6 @@
 use Rattle.std.proofs.Common.{◌≡◌, ℕ, ◌<◌, List, [], ◌∷◌, length, get_or, sym, refl, ap, ◌∙◌, subst, arith}
 use Rattle.std.specs.List.{ContainsAt as Has}
 use Rattle.syntax.specs.declared.name.DelimiterName.TheVariants.{VariableEnd, BlockEnd}
-use Rattle.finder.specs.Finding.{Opening, Filled}
 use Rattle.syntax.specs.declared.settings.Settings.{Settings}
 use Rattle.syntax.specs.Building.{table_of}
 use Rattle.syntax.specs.Openings.{openings_of, Lawful}
@@ -18,13 +17,6 @@ ended s =
 
 lawful : (s : Settings) → Lawful (openings_of s)
 lawful s = passes_lawful (table_of s.delims) s.tested
-
-some_bytes : (xs : List ℕ) → (xs ≡ [] → ⊥) → 0 < length xs
-some_bytes [] h = absurd (h refl)
-some_bytes (x ∷ xs) h = omega arith
-
-pub filled : (s : Settings) → Filled (openings_of s)
-filled s o h = some_bytes o.bytes (λ e. (lawful s).filled h.0 o h.1 (ap (λ p. p.bytes) (h.2 o) ∙ e))
 
 pub apart : (s : Settings) → Apart (openings_of s)
 apart s = (lawful s).apart

@@ -1,6 +1,6 @@
 -- A reader is a stream.
 use Rattle.std.proofs.Common.{◌≡◌, ℕ, ◌+◌, ◌<◌, ◌≤◌, Bool, List, length, sym, refl, ap, ◌∙◌, subst}
-use Rattle.finder.specs.Finding.{Opening, Filled, Same}
+use Rattle.finder.specs.Finding.{Opening, Same}
 use Rattle.stream.specs.declared.answer.Answer.{Answer}
 use Rattle.stream.specs.declared.answer.Ending.{Ending}
 use Rattle.stream.specs.Told.{Next, Falls}
@@ -17,7 +17,7 @@ use Rattle.rules.specs.Shapes.{held, least}
 use Rattle.rules.proofs.Fuel.{FineAt, meaning_ends}
 use Rattle.rules.proofs.Whole.{fine_at}
 use Rattle.reader.specs.Views.{View, Told, tell, items_of, ending_of, left_of}
-use Rattle.reader.proofs.Settings.{ended, filled, apart}
+use Rattle.reader.proofs.Settings.{ended, apart}
 use Rattle.reader.proofs.Tells.{tells, falls, same_tell}
 
 module _ (os : List Opening) (st su : Settings) (v u : View) (a : Answer Piece (Ending ReadFault)) (fine : FineAt v.core)
@@ -27,7 +27,7 @@ module _ (os : List Opening) (st su : Settings) (v u : View) (a : Answer Piece (
   stream_tells h =
       let ps : List Opening = openings_of st in
       let e = same_tell os ps (apart st) h (config_of st) v in
-      let base = tells ps (config_of st) v fine (filled st) (ended st) in
+      let base = tells ps (config_of st) v fine (ended st) in
       subst (λ x. Next (items_of ps (config_of st) v) (ending_of ps (config_of st) v) a (items_of (openings_of x) (config_of x) u) (ending_of (openings_of x) (config_of x) u)) (sym same)
       (subst (λ x. Next (items_of ps (config_of st) v) (ending_of ps (config_of st) v) a (items_of ps (config_of st) x) (ending_of ps (config_of st) x)) (sym (after ∙ ap (λ t. t.after) e))
       (subst (λ x. Next (items_of ps (config_of st) v) (ending_of ps (config_of st) v) x (items_of ps (config_of st) (tell ps (config_of st) v).after) (ending_of ps (config_of st) (tell ps (config_of st) v).after)) (sym (answer ∙ ap (λ t. t.answer) e)) base))
@@ -35,11 +35,11 @@ module _ (os : List Opening) (st su : Settings) (v u : View) (a : Answer Piece (
   pub stream_serves : (qs : List Opening) → Same qs (openings_of st) → Same qs (openings_of su)
   stream_serves qs h = subst (λ x. Same qs (openings_of x)) (sym same) h
 
-  pub stream_falls : Filled os → Falls (left_of v) a (left_of u)
-  stream_falls f =
+  pub stream_falls : Falls (left_of v) a (left_of u)
+  stream_falls =
       subst (λ x. Falls (left_of v) a (left_of x)) (sym after)
-      (subst (λ x. Falls (left_of v) x (left_of (tell os (config_of st) v).after)) (sym answer) (falls os (config_of st) v fine f (ended st)))
+      (subst (λ x. Falls (left_of v) x (left_of (tell os (config_of st) v).after)) (sym answer) (falls os (config_of st) v fine (ended st)))
 
 -- a reading has enough calls to end
 pub ends_told : (st : Settings) (t : List ℕ) (n i : ℕ) (m : LexerState) (w : Pending) (e : Bool) → n ≤ length t → i + held w ≤ n → 0 < least w → (meaning (openings_of st) (config_of st) (core_at t n i m w e)).stop ≡ Unread → ⊥
-ends_told st t n i m w e within inside lively = meaning_ends (openings_of st) (filled st) (config_of st) (ended st) (core_at t n i m w e) (fine_at t n i m w e within inside lively)
+ends_told st t n i m w e within inside lively = meaning_ends (openings_of st) (config_of st) (ended st) (core_at t n i m w e) (fine_at t n i m w e within inside lively)

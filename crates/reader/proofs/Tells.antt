@@ -1,6 +1,6 @@
 -- What a call tells is the first of what a reader means.
 use Rattle.std.proofs.Common.{◌≡◌, ℕ, suc, ◌+◌, ◌-◌, ◌<◌, ◌≤◌, List, [], ◌∷◌, length, Some, None, Option, sym, refl, ap, ◌∙◌, subst, arith}
-use Rattle.finder.specs.Finding.{Opening, Filled, Same}
+use Rattle.finder.specs.Finding.{Opening, Same}
 use Rattle.stream.specs.declared.answer.Answer.TheVariants.{Item, End}
 use Rattle.stream.specs.declared.answer.Ending.{Ending}
 use Rattle.stream.specs.Told.{Next, Falls}
@@ -57,34 +57,34 @@ module _ (os : List Opening) (s : Config) (v : View) where
   told_now e = ap (λ o. elim o as (λ _. Told) [ Some y ↦ record { answer = End y; after = v } | None ↦ tell_by v (call os s v.core) ]) e
 
   -- what is told, by whether an ending was told before
-  tells_so : (o : Option (Ending ReadFault)) → v.told ≡ o → FineAt v.core → Filled os → Ended s → Next (items_of os s v) (ending_of os s v) (tell os s v).answer (items_of os s (tell os s v).after) (ending_of os s (tell os s v).after)
-  tells_so None e f filled ends =
+  tells_so : (o : Option (Ending ReadFault)) → v.told ≡ o → FineAt v.core → Ended s → Next (items_of os s v) (ending_of os s v) (tell os s v).answer (items_of os s (tell os s v).after) (ending_of os s (tell os s v).after)
+  tells_so None e f ends =
       subst (λ o. Next (elim o [ Some x ↦ [] | None ↦ pieces v.place (meaning os s v.core).parts ]) (elim o [ Some x ↦ x | None ↦ ending v.place (meaning os s v.core) ])
       (elim o as (λ _. Told) [ Some x ↦ record { answer = End x; after = v } | None ↦ tell_by v (call os s v.core) ]).answer
       (items_of os s (elim o as (λ _. Told) [ Some x ↦ record { answer = End x; after = v } | None ↦ tell_by v (call os s v.core) ]).after)
       (ending_of os s (elim o as (λ _. Told) [ Some x ↦ record { answer = End x; after = v } | None ↦ tell_by v (call os s v.core) ]).after))
-      (sym e) (tells_by (call os s v.core) (meaning_step os filled s ends v.core f))
-  tells_so (Some x) e f filled ends =
+      (sym e) (tells_by (call os s v.core) (meaning_step os s ends v.core f))
+  tells_so (Some x) e f ends =
       let i : items_of os s v ≡ [] = ap (λ o. elim o [ Some y ↦ [] | None ↦ pieces v.place (meaning os s v.core).parts ]) e in
       let n : ending_of os s v ≡ x = ap (λ o. elim o [ Some y ↦ y | None ↦ ending v.place (meaning os s v.core) ]) e in
       subst (λ t. Next (items_of os s v) (ending_of os s v) t.answer (items_of os s t.after) (ending_of os s t.after))
       (sym (ap (λ o. elim o as (λ _. Told) [ Some y ↦ record { answer = End y; after = v } | None ↦ tell_by v (call os s v.core) ]) e))
       (i, sym n, i, refl)
 
-  pub tells : FineAt v.core → Filled os → Ended s → Next (items_of os s v) (ending_of os s v) (tell os s v).answer (items_of os s (tell os s v).after) (ending_of os s (tell os s v).after)
-  tells f filled ends = tells_so v.told refl f filled ends
+  pub tells : FineAt v.core → Ended s → Next (items_of os s v) (ending_of os s v) (tell os s v).answer (items_of os s (tell os s v).after) (ending_of os s (tell os s v).after)
+  tells f ends = tells_so v.told refl f ends
 
-  falls_so : (o : Option (Ending ReadFault)) → v.told ≡ o → FineAt v.core → Filled os → Ended s → Falls (left_of v) (tell os s v).answer (left_of (tell os s v).after)
-  falls_so None e f filled ends =
+  falls_so : (o : Option (Ending ReadFault)) → v.told ≡ o → FineAt v.core → Ended s → Falls (left_of v) (tell os s v).answer (left_of (tell os s v).after)
+  falls_so None e f ends =
       subst (λ o. Falls (elim o [ Some x ↦ 0 | None ↦ suc (measure v.core) ]) (elim o as (λ _. Told) [ Some x ↦ record { answer = End x; after = v } | None ↦ tell_by v (call os s v.core) ]).answer (left_of (elim o as (λ _. Told) [ Some x ↦ record { answer = End x; after = v } | None ↦ tell_by v (call os s v.core) ]).after))
-      (sym e) (falls_by (call os s v.core) (call_steps os filled s ends v.core f))
-  falls_so (Some x) e f filled ends =
+      (sym e) (falls_by (call os s v.core) (call_steps os s ends v.core f))
+  falls_so (Some x) e f ends =
       subst (λ t. Falls (left_of v) t.answer (left_of t.after))
       (sym (ap (λ o. elim o as (λ _. Told) [ Some y ↦ record { answer = End y; after = v } | None ↦ tell_by v (call os s v.core) ]) e))
       (omega arith)
 
-  pub falls : FineAt v.core → Filled os → Ended s → Falls (left_of v) (tell os s v).answer (left_of (tell os s v).after)
-  falls f filled ends = falls_so v.told refl f filled ends
+  pub falls : FineAt v.core → Ended s → Falls (left_of v) (tell os s v).answer (left_of (tell os s v).after)
+  falls f ends = falls_so v.told refl f ends
 
 -- the same openings tell the same
 pub same_tell : (os ps : List Opening) → Apart ps → Same os ps → (s : Config) (v : View) → tell os s v ≡ tell ps s v

@@ -1,7 +1,7 @@
 -- One call of a reading: how many calls are allowed does not matter, if they are enough.
 use Rattle.std.proofs.Common.{◌≡◌, ℕ, zero, suc, ◌+◌, ◌-◌, ◌*◌, ◌<◌, ◌≤◌, Bool, true, false, List, [], ◌∷◌, length, take, drop, sym, refl, ap, ◌∙◌, subst, arith}
 use Rattle.std.proofs.lemmas.List.{length-drop}
-use Rattle.finder.specs.Finding.{Opening, Filled}
+use Rattle.finder.specs.Finding.{Opening}
 use Rattle.rules.specs.declared.Verdict.{Verdict}
 use Rattle.rules.specs.declared.Verdict.TheVariants.{Piece, End, Fault}
 use Rattle.rules.specs.Config.{Config, Ended}
@@ -47,9 +47,9 @@ reading_more n os s c = by (call os s c)
     by (Gives p d) = refl
     by (Stops e) = refl
 
-module _ (os : List Opening) (filled : Filled os) (s : Config) (ended : Ended s) where
+module _ (os : List Opening) (s : Config) (ended : Ended s) where
   pub call_steps : (c : Core) → FineAt c → Steps c (call os s c)
-  call_steps c f = act_steps c (verdict os s c) f (verdict_fits s os filled ended c f)
+  call_steps c f = act_steps c (verdict os s c) f (verdict_fits s os ended c f)
 
   reading_enough : (m n : ℕ) (c : Core) → measure c < m → measure c < n → FineAt c → reading m os s c ≡ reading n os s c
   reading_enough zero n c h k f = absurd (omega arith)
@@ -86,7 +86,7 @@ module _ (os : List Opening) (filled : Filled os) (s : Config) (ended : Ended s)
   unfolding Goes
   reading_ends zero c h f u = omega arith
   reading_ends (suc n) c h f u =
-      act_ends (reading n os s) c (λ e l g. reading_ends n e (omega arith) g) f (verdict os s c) (verdict_fits s os filled ended c f) (sym (ap (λ r. r.stop) (reading_more n os s c)) ∙ u)
+      act_ends (reading n os s) c (λ e l g. reading_ends n e (omega arith) g) f (verdict os s c) (verdict_fits s os ended c f) (sym (ap (λ r. r.stop) (reading_more n os s c)) ∙ u)
 
   pub meaning_ends : (c : Core) → FineAt c → (meaning os s c).stop ≡ Unread → ⊥
   unfolding meaning

@@ -5,7 +5,7 @@ use Rattle.std.proofs.lemmas.Bool.{cases_lt}
 use Rattle.std.specs.List.{ContainsAt as Has}
 use Rattle.byte_search.specs.Search.{stands_at}
 use Rattle.byte_search.proofs.Stands.{stands_split}
-use Rattle.finder.specs.Finding.{Opening, Same, Filled, Triple, found, longest, qualifies, further}
+use Rattle.finder.specs.Finding.{Opening, Same, Triple, found, longest, qualifies, further}
 use Rattle.finder.proofs.Longest.{Best, longest_best}
 use Rattle.rules.specs.declared.LexerState.{LexerState}
 use Rattle.rules.specs.declared.LexerState.TheVariants.{Template, Inside, Over}
@@ -13,7 +13,7 @@ use Rattle.rules.specs.declared.Pending.{Pending}
 use Rattle.rules.specs.declared.Pending.TheVariants.{Nothing, Trim, Tail, Marker, RawBody, RawClose}
 use Rattle.rules.specs.Config.{Config, white}
 use Rattle.rules.specs.State.{Core}
-use Rattle.rules.specs.Texts.{met, text, trimmed, text_verdict, verdict_by, verdict}
+use Rattle.rules.specs.Texts.{met, real, text, trimmed, text_verdict, verdict_by, verdict}
 use Rattle.spaces.specs.Runs.{white_run}
 use Rattle.rules.proofs.Lengths.{stands_of}
 
@@ -61,7 +61,7 @@ module _ (ps : List Opening) (apart : Apart ps) where
   same_text : (os : List Opening) → Same os ps → (s : Config) (behind xs : List ℕ) → text os s behind xs ≡ text ps s behind xs
   unfolding text
   same_text os h s behind [] = refl
-  same_text os h s behind (x ∷ xs) = ap (met s behind (x ∷ xs)) (same_found os h behind (x ∷ xs))
+  same_text os h s behind (x ∷ xs) = ap (λ r. met s behind (x ∷ xs) (real r)) (same_found os h behind (x ∷ xs))
 
   same_trimmed : (os : List Opening) → Same os ps → (s : Config) (behind xs : List ℕ) (n : ℕ) → trimmed os s behind xs n ≡ trimmed ps s behind xs n
   same_trimmed os h s behind xs zero = same_text os h s behind xs

@@ -6,7 +6,7 @@ use Rattle.std.specs.List.{ContainsAt as Has}
 use Rattle.byte_search.specs.Search.{stands_at, distance_to, further, First, Stands}
 use Rattle.byte_search.proofs.Stands.{stands_fits}
 use Rattle.byte_search.proofs.Firsts.{distance_first, stands_room}
-use Rattle.finder.specs.Finding.{Opening, Filled, Triple, found, longest, qualifies, fitting}
+use Rattle.finder.specs.Finding.{Opening, Triple, found, longest, qualifies, fitting}
 use Rattle.finder.specs.Finding.{further as onward}
 use Rattle.finder.proofs.Longest.{Best, longest_best}
 use Rattle.spaces.specs.Lines.{blank_run, line_end, lf}
@@ -18,6 +18,7 @@ use Rattle.rules.specs.declared.NumberState.{NumberState}
 use Rattle.rules.specs.Bytes.{run}
 use Rattle.rules.specs.Numbers.{turn, scan, Scanned, longer}
 use Rattle.rules.specs.Strings.{quote_end}
+use Rattle.rules.specs.Texts.{real_by, real}
 
 pub run_le : (p : ℕ → Bool) (xs : List ℕ) → run p xs ≤ length xs
 unfolding run
@@ -80,26 +81,42 @@ scan_le base dotted p (x ∷ xs) =
       | Some q ↦ omega (arith, scan_le base dotted q xs)
     ]
 
+-- what is found lies ahead
+abbrev pub Ahead : List ℕ → Option Triple → Type 0
+Ahead xs None = Unit {0}
+Ahead xs (Some t) = (t.0 + t.2 ≤ length xs) × (t.0 < length xs)
+
 -- what is found has a byte and lies ahead
 abbrev pub Within : List ℕ → Option Triple → Type 0
 Within xs None = Unit {0}
 Within xs (Some t) = (0 < t.2) × (t.0 + t.2 ≤ length xs) × (t.0 < length xs)
 
-onward_within : (x : ℕ) (xs : List ℕ) (r : Option Triple) → Within xs r → Within (x ∷ xs) (onward r)
-onward_within x xs None h = tt
-onward_within x xs (Some t) h = (h.0, omega (arith, h.1), omega (arith, h.2))
+onward_ahead : (x : ℕ) (xs : List ℕ) (r : Option Triple) → Ahead xs r → Ahead (x ∷ xs) (onward r)
+onward_ahead x xs None h = tt
+onward_ahead x xs (Some t) h = (omega (arith, h.0), omega (arith, h.1))
 
 pub stands_of : (o : Opening) (behind xs : List ℕ) → qualifies o behind xs ≡ true → stands_at o.bytes xs ≡ true
 stands_of o behind xs e = ⊎_elim (λ h. h) (λ h. absurd (both_ways (qualifies o behind xs) (ap (λ t. elim t [ true ↦ fitting o.marker behind | false ↦ false ]) h) e)) (cases_Bool (stands_at o.bytes xs))
 
-found_within_by : (os : List Opening) → Filled os → (behind : List ℕ) (x : ℕ) (xs : List ℕ) (r : Option Opening) → Best os behind (x ∷ xs) r → Within xs (found os (x ∷ behind) xs)
-    → Within (x ∷ xs) (elim r [ Some o ↦ Some (0, o.marker, length o.bytes) | None ↦ onward (found os (x ∷ behind) xs) ])
-found_within_by os f behind x xs None b h = onward_within x xs (found os (x ∷ behind) xs) h
-found_within_by os f behind x xs (Some o) b h =
+found_ahead_by : (os : List Opening) (behind : List ℕ) (x : ℕ) (xs : List ℕ) (r : Option Opening) → Best os behind (x ∷ xs) r → Ahead xs (found os (x ∷ behind) xs)
+    → Ahead (x ∷ xs) (elim r [ Some o ↦ Some (0, o.marker, length o.bytes) | None ↦ onward (found os (x ∷ behind) xs) ])
+found_ahead_by os behind x xs None b h = onward_ahead x xs (found os (x ∷ behind) xs) h
+found_ahead_by os behind x xs (Some o) b h =
     let l : length o.bytes ≤ length (x ∷ xs) = stands_fits o.bytes (x ∷ xs) (stands_of o behind (x ∷ xs) b.1) in
-    (f o b.0, omega arith, omega arith)
+    (omega arith, omega arith)
 
-pub found_within : (os : List Opening) → Filled os → (behind xs : List ℕ) → Within xs (found os behind xs)
+found_ahead : (os : List Opening) (behind xs : List ℕ) → Ahead xs (found os behind xs)
 unfolding found
-found_within os f behind [] = tt
-found_within os f behind (x ∷ xs) = found_within_by os f behind x xs (longest os behind (x ∷ xs)) (longest_best behind (x ∷ xs) os) (found_within os f (x ∷ behind) xs)
+found_ahead os behind [] = tt
+found_ahead os behind (x ∷ xs) = found_ahead_by os behind x xs (longest os behind (x ∷ xs)) (longest_best behind (x ∷ xs) os) (found_ahead os (x ∷ behind) xs)
+
+real_within_by : (xs : List ℕ) (n : ℕ) (t : Triple) → t.2 ≡ n → (t.0 + t.2 ≤ length xs) × (t.0 < length xs) → Within xs (real_by n t)
+real_within_by xs zero t e h = tt
+real_within_by xs (suc n) t e h = (omega arith, h.0, h.1)
+
+real_within : (xs : List ℕ) (r : Option Triple) → Ahead xs r → Within xs (real r)
+real_within xs None h = tt
+real_within xs (Some t) h = real_within_by xs t.2 t refl h
+
+pub found_within : (os : List Opening) (behind xs : List ℕ) → Within xs (real (found os behind xs))
+found_within os behind xs = real_within xs (found os behind xs) (found_ahead os behind xs)

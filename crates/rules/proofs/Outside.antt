@@ -6,7 +6,7 @@ use Rattle.byte_search.specs.Search.{stands_at, distance_to}
 use Rattle.byte_search.proofs.Stands.{stands_fits}
 use Rattle.finder.specs.declared.StartMarker.{StartMarker}
 use Rattle.finder.specs.declared.StartMarker.TheVariants.{Variable, Block, Comment, LineStatement, LineComment}
-use Rattle.finder.specs.Finding.{Opening, Filled, Triple, found}
+use Rattle.finder.specs.Finding.{Opening, Triple, found}
 use Rattle.spaces.specs.Lines.{blank_run, line_end}
 use Rattle.spaces.specs.Runs.{white_run, kept}
 use Rattle.pieces.specs.declared.kind.Kind.TheVariants.{Comment as CommentGap}
@@ -25,7 +25,7 @@ use Rattle.rules.specs.Reading.{rank, wait_rank}
 use Rattle.rules.specs.Shapes.{held, least, level, Fits}
 use Rattle.rules.specs.State.{Core, told, plain}
 use Rattle.rules.specs.Tags.{tail}
-use Rattle.rules.specs.Texts.{due, left_over, stripped, lead, Basic, basic_end, basic_tag, raw_name, endraw_name, closer_by, closer_at, Far, away, find_closer, raw_from, raw_to, raw_text_by, raw_body, closing_sign, comment_by, comment, line_comment_here, block_by, opened, gap_then, lead_then, opening_sign, met, text, trimmed, text_verdict, over_verdict, verdict_by, verdict}
+use Rattle.rules.specs.Texts.{due, left_over, stripped, lead, Basic, basic_end, basic_tag, raw_name, endraw_name, closer_by, closer_at, Far, away, find_closer, raw_from, raw_to, raw_text_by, raw_body, closing_sign, comment_by, comment, line_comment_here, block_by, opened, gap_then, lead_then, opening_sign, met, real, text, trimmed, text_verdict, over_verdict, verdict_by, verdict}
 use Rattle.rules.proofs.Lengths.{run_le, blank_le, white_le, kept_within, line_end_le, Reached, distance_le, Within, found_within}
 use Rattle.rules.proofs.Inside.{Fine, tailed, tag_fits}
 
@@ -230,21 +230,21 @@ module _ (s : Config) (w : Pending) where
       let d = length-take t.0 xs in
       lead_fits (lead s t.1 g behind (take t.0 xs)) t.0 t.1 (t.2 + sign_len g) xs (omega (arith, f.0)) (omega arith) (omega (arith, f.1))
 
-  module _ (os : List Opening) (filled : Filled os) where
+  module _ (os : List Opening) where
     text_fits : (behind xs : List ℕ) → Fits (length xs) Template w (text os s behind xs)
     unfolding text
     text_fits behind [] = refl
-    text_fits behind (x ∷ xs) = met_fits behind (x ∷ xs) (found os behind (x ∷ xs)) (omega arith) (found_within os filled behind (x ∷ xs))
+    text_fits behind (x ∷ xs) = met_fits behind (x ∷ xs) (real (found os behind (x ∷ xs))) (omega arith) (found_within os behind (x ∷ xs))
 
     trimmed_fits : (behind xs : List ℕ) (n : ℕ) → n ≤ length xs → Fits (length xs) Template w (trimmed os s behind xs n)
     trimmed_fits behind xs zero h = text_fits behind xs
     trimmed_fits behind xs (suc n) h = record { ahead = omega arith; lively = omega arith; ordered = omega arith; inside = omega arith; falls = omega arith; level = omega arith }
 
-module _ (s : Config) (os : List Opening) (filled : Filled os) where
+module _ (s : Config) (os : List Opening) where
   pub waiting_fits : (behind xs : List ℕ) (w : Pending) → Fine (length xs) w → Fits (length xs) Template w (text_verdict os s behind xs w)
   unfolding text_verdict
-  waiting_fits behind xs Nothing f = text_fits s Nothing os filled behind xs
-  waiting_fits behind xs Trim f = trimmed_fits s Trim os filled behind xs (white_run (white s) xs) (white_le (white s) xs)
+  waiting_fits behind xs Nothing f = text_fits s Nothing os behind xs
+  waiting_fits behind xs Trim f = trimmed_fits s Trim os behind xs (white_run (white s) xs) (white_le (white s) xs)
   waiting_fits behind xs (Tail n) f = record { ahead = omega (arith, f.1); lively = omega arith; ordered = omega arith; inside = omega arith; falls = omega (arith, f.0); level = omega arith }
   waiting_fits behind xs (Marker g m n) f = gap_fits s (Marker g m n) g m n xs f.0 f.1
   waiting_fits behind xs (RawBody g) f = raw_fits s g behind xs

@@ -201,10 +201,20 @@ met s behind xs (Some t) =
     let g : Whitespace = opening_sign t.1 (drop (t.0 + t.2) xs) in
     lead_then s (lead s t.1 g behind (take t.0 xs)) t.0 t.1 (t.2 + sign_len g) xs
 
+-- a find of so many bytes: one of none opens nothing
+abbrev pub real_by : ℕ → Triple → Option Triple
+real_by zero t = None
+real_by (suc n) t = Some t
+
+-- what a finder tells, but for a find of no bytes
+abbrev pub real : Option Triple → Option Triple
+real None = None
+real (Some t) = real_by t.2 t
+
 -- text to the next of the openings
 unfoldable pub text : List Opening → Config → List ℕ → List ℕ → Verdict
 text os s behind [] = End
-text os s behind (x ∷ xs) = met s behind (x ∷ xs) (found os behind (x ∷ xs))
+text os s behind (x ∷ xs) = met s behind (x ∷ xs) (real (found os behind (x ∷ xs)))
 
 -- a trim of n bytes was ordered
 abbrev pub trimmed : List Opening → Config → List ℕ → List ℕ → ℕ → Verdict

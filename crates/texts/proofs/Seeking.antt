@@ -11,7 +11,7 @@ use Rattle.rules.specs.declared.Verdict.TheVariants.{End}
 use Rattle.rules.specs.Bytes.{behind_at}
 use Rattle.rules.specs.Config.{Config}
 use Rattle.rules.specs.State.{plain}
-use Rattle.rules.specs.Texts.{met, text}
+use Rattle.rules.specs.Texts.{met, real, text}
 use Rattle.texts.proofs.Alike.{found_behind}
 
 -- what a test for no bytes tells
@@ -27,7 +27,7 @@ module _ (os : List Opening) (s : Config) where
   unfolding text
   none_left b = refl
 
-  some_left : (b xs : List ℕ) → 0 < length xs → text os s b xs ≡ met s b xs (found os b xs)
+  some_left : (b xs : List ℕ) → 0 < length xs → text os s b xs ≡ met s b xs (real (found os b xs))
   unfolding text
   some_left b [] h = absurd (omega arith)
   some_left b (x ∷ xs) h = refl
@@ -41,10 +41,10 @@ module _ (os : List Opening) (s : Config) where
         sym (none_left (behind_at xs i)) ∙ ap (text os s (behind_at xs i)) (sym (drop_all i xs (omega arith)))
 
     -- before what a finder found
-    pub text_found : (o : Option Triple) (v : Verdict) → 0 < length ys → o ≡ found_from os xs i → v ≡ met s (behind_at xs i) (drop i xs) o → v ≡ text os s (behind_at xs i) (drop i xs)
+    pub text_found : (o : Option Triple) (v : Verdict) → 0 < length ys → o ≡ found_from os xs i → v ≡ met s (behind_at xs i) (drop i xs) (real o) → v ≡ text os s (behind_at xs i) (drop i xs)
     text_found o v h f g =
         let m = ap length e in
-        g ∙ ap (met s (behind_at xs i) (drop i xs)) (f ∙ sym (found_behind os xs i)) ∙ sym (some_left (behind_at xs i) (drop i xs) (omega arith))
+        g ∙ ap (λ r. met s (behind_at xs i) (drop i xs) (real r)) (f ∙ sym (found_behind os xs i)) ∙ sym (some_left (behind_at xs i) (drop i xs) (omega arith))
 
     pub text_all : (v : Verdict) → 0 < length ys → None ≡ found_from os xs i → v ≡ plain Text (length ys) Template Nothing → v ≡ text os s (behind_at xs i) (drop i xs)
     text_all v h f g = text_found None v h f (g ∙ ap (λ l. plain Text (length l) Template Nothing) e)

@@ -6,7 +6,7 @@ ghost use Rattle.std.specs.Prelude.{◌≡◌, ◌+◌, ◌-◌, ◌≤◌, leng
 ghost use Rattle.rules.specs.Bytes.{in_line, run, sign_len, behind_at, LongestRun};
 ghost use Rattle.rules.specs.Config.{config_of};
 ghost use Rattle.rules.specs.State.{plain as plainly};
-ghost use Rattle.rules.specs.Texts.{closing_sign, comment as commentTold, line_comment_here, raw_name, basic_tag, block_by, opened, gap_then, lead_then, opening_sign, met, text as textTold, trimmed as trimmedTold, text_verdict};
+ghost use Rattle.rules.specs.Texts.{closing_sign, comment as commentTold, line_comment_here, raw_name, basic_tag, block_by, opened, gap_then, lead_then, opening_sign, met, real, text as textTold, trimmed as trimmedTold, text_verdict};
 ghost use Rattle.texts.specs.Gaps.{CommentEnds, LineEnds};
 ghost use Rattle.raws.specs.Waiting.{Inside};
 ghost use Rattle.rules.specs.Shapes.{held};
@@ -207,7 +207,7 @@ fn opening_sign(marker: StartMarker, rest: &[u8]) -> Whitespace
     }
 }
 
-// Text to an opening of so many bytes that was found so far ahead.
+// Text to an opening of so many bytes that was found so far ahead; one of no bytes opens nothing, and all that is left is text.
 fn meet(
     settings: &Settings,
     source: &[u8],
@@ -217,10 +217,18 @@ fn meet(
     len: usize,
 ) -> Verdict
     requires { offset + (distance + len) ≤ length source.now }
-    ensures value { result ≡ met (config_of settings.now) (behind_at source.now offset) (drop offset source.now) (Some (distance, marker, len)) }
+    ensures value { result ≡ met (config_of settings.now) (behind_at source.now offset) (drop offset source.now) (real (Some (distance, marker, len))) }
     ensures inside { Inside (length source.now - offset) result }
 {
     let rest = after(source, offset);
+    if len == 0 {
+        return plain(
+            Kind::Text,
+            rest.len(),
+            LexerState::Template,
+            Pending::Nothing,
+        );
+    }
     let ws = opening_sign(marker, after(rest, distance + len));
     let text = lead(settings, marker, ws, source, offset, distance);
     lead_then(settings, text, distance, marker, len + sign_len(ws), rest)

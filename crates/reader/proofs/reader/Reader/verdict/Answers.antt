@@ -22,5 +22,5 @@ returns g c =
     let v = ruled_at os (config r) r.template.now c.until.result.now r.left r.offset r.state r.pending r.cut_told c.verdict_at.result c.until.ensures.value (omega arith) c.verdict_at.ensures in
     record {
       value = v;
-      fits = fits_at os (g.met.F.Finder.filled c.args.finder.now) (config r) (ended r.settings) r.template.now r.left r.offset r.state r.pending r.cut_told r.within r.inside r.lively c.verdict_at.result v;
+      fits = fits_at os (config r) (ended r.settings) r.template.now r.left r.offset r.state r.pending r.cut_told r.within r.inside r.lively c.verdict_at.result v;
     }

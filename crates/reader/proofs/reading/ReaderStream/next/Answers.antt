@@ -13,5 +13,5 @@ returns g c =
     record {
       tells = λ h. stream_tells os r.settings q.settings (view_of r) (view_of q) c.next_piece.result f e.settings e.value e.view h;
       serves = λ qs h. stream_serves os r.settings q.settings (view_of r) (view_of q) c.next_piece.result f e.settings e.value e.view qs h;
-      falls = stream_falls os r.settings q.settings (view_of r) (view_of q) c.next_piece.result f e.settings e.value e.view (g.met.F.Finder.filled c.args.finder.now);
+      falls = stream_falls os r.settings q.settings (view_of r) (view_of q) c.next_piece.result f e.settings e.value e.view;
     }
