@@ -6,7 +6,7 @@ use Rattle.std.proofs.lemmas.Bool.{leb-true, and_from, and_parts}
 use Rattle.std.proofs.lemmas.Str.{length-encode, len_utf8_bounds}
 use Rattle.std.proofs.lemmas.Bool.Decides.{nat_tests}
 use Rattle.std.specs.Char.{len_utf8}
-use Rattle.std.specs.List.{AllByRecursion as All}
+use Rattle.std.specs.List.{AllByRecursion}
 use Rattle.stream.specs.declared.answer.Ending.{Ending}
 use Rattle.stream.specs.declared.answer.Ending.TheVariants.{Failed}
 use Rattle.utf8.specs.declared.NotUtf8.{NotUtf8 as Illformed}
@@ -41,7 +41,7 @@ meant_by : (b : Bool) (x v : ℕ) (o : Option ℕ) → x < 128 → (o ≡ Some v
 meant_by true x v o h k e = let q : x ≡ v = cc in omega arith
 meant_by false x v o h k e = k e
 
-meant_small : (ps : List Pair) (d v : ℕ) → All (λ p. p.1 < 128) ps → meant ps d ≡ Some v → v < 128
+meant_small : (ps : List Pair) (d v : ℕ) → AllByRecursion (λ p. p.1 < 128) ps → meant ps d ≡ Some v → v < 128
 unfolding meant
 meant_small [] d v a e = let z : ◌≡◌ {A = ℕ} 0 1 = cc in absurd (omega arith)
 meant_small (p ∷ ps) d v a e = meant_by (eqb d p.0) p.1 v (meant ps d) a.0 (meant_small ps d v a.1) e

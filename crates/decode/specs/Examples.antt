@@ -1,6 +1,6 @@
 -- Worked examples of decoding.
 use Rattle.std.specs.Prelude.{◌≡◌, ℕ, List, [], ◌∷◌, codes}
-use Rattle.std.specs.List.{AllByRecursion as All}
+use Rattle.std.specs.List.{AllByRecursion}
 use Rattle.decode.specs.Decoding.{Told, Done, Refused, decode}
 
 -- a text and its answer
@@ -45,4 +45,4 @@ examples =
 
 -- each text has its answer
 abbrev pub ExamplesHold : Type 0
-ExamplesHold = All (λ e. decode e.text ≡ e.answer) examples
+ExamplesHold = AllByRecursion (λ e. decode e.text ≡ e.answer) examples

@@ -1,7 +1,7 @@
 -- The laws of a run of characters at the front.
 use Rattle.std.proofs.Common.{◌≡◌, ℕ, zero, suc, ◌+◌, ◌-◌, ◌≤◌, Bool, true, false, List, [], ◌∷◌, ◌++◌, length, take, drop, Some, None, Option, sym, refl, ap, ◌∙◌, subst, ⊎_elim, arith, take-add}
 use lib.Utf8.{scalar, scalars, encode, encodes}
-use Rattle.std.specs.List.{AllByRecursion as All}
+use Rattle.std.specs.List.{AllByRecursion}
 use Rattle.std.proofs.lemmas.List.{append-nil, append_assoc, length-append, length-drop, drop_at, drop-drop, take_all}
 use Rattle.std.proofs.lemmas.Bool.{and_parts, and_from, cases_Bool}
 use Rattle.utf8.specs.declared.Char.{Char}
@@ -86,7 +86,7 @@ module _ (p : ℕ → Bool) where
   run_longest xs = longest_by (length xs) xs (omega arith)
 
   -- characters that pass belong to the run
-  pub run_encodes : (cs rest : List ℕ) → scalars cs ≡ true → All (λ c. p c ≡ true) cs → white_run p (encodes cs ++ rest) ≡ length (encodes cs) + white_run p rest
+  pub run_encodes : (cs rest : List ℕ) → scalars cs ≡ true → AllByRecursion (λ c. p c ≡ true) cs → white_run p (encodes cs ++ rest) ≡ length (encodes cs) + white_run p rest
   run_encodes [] rest s a = omega arith
   run_encodes (c ∷ cs) rest s a =
       let q = and_parts (scalar c) (scalars cs) s in

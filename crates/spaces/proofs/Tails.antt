@@ -1,7 +1,7 @@
 -- The laws of a run of characters at the end.
 use Rattle.std.proofs.Common.{◌≡◌, ℕ, zero, suc, ◌+◌, ◌-◌, ◌<◌, ◌≤◌, Bool, true, false, List, [], ◌∷◌, ◌++◌, length, take, drop, Some, None, IsUtf8, sym, refl, ap, ◌∙◌, subst, ⊎_elim, arith, take-add}
 use lib.Utf8.{scalar, scalars, encode, encodes}
-use Rattle.std.specs.List.{AllByRecursion as All}
+use Rattle.std.specs.List.{AllByRecursion}
 use Rattle.utf8.specs.declared.Char.{Char}
 use Rattle.std.proofs.ByRecursion.{All-take}
 use Rattle.std.proofs.lemmas.List.{append-nil, append_assoc, length-drop, length-take, drop-drop, take_at, take-append-drop, drop-append-le, drop_all}
@@ -63,7 +63,7 @@ module _ (p : ℕ → Bool) where
   abbrev Last : List ℕ → Type 0
   Last xs = (d : ℕ) × (front : List ℕ) × (scalar d ≡ true) × (p d ≡ true) × (xs ≡ front ++ encode d)
 
-  last_of : (c : ℕ) (cs : List ℕ) → scalars (c ∷ cs) ≡ true → All (λ c. p c ≡ true) (c ∷ cs) → Last (encodes (c ∷ cs))
+  last_of : (c : ℕ) (cs : List ℕ) → scalars (c ∷ cs) ≡ true → AllByRecursion (λ c. p c ≡ true) (c ∷ cs) → Last (encodes (c ∷ cs))
   last_of c [] s a = (c, [], (and_parts (scalar c) true s).0, a.0, append-nil (encode c))
   last_of c (d ∷ ds) s a =
       let l = last_of d ds (and_parts (scalar c) (scalars (d ∷ ds)) s).1 a.1 in
@@ -72,7 +72,7 @@ module _ (p : ℕ → Bool) where
   last_all : (xs : List ℕ) → 0 < length xs → AllPass p xs → Last xs
   last_all xs h (cs, s, a, e) = by cs s a e
     where
-      by : (cs : List ℕ) → scalars cs ≡ true → All (λ c. p c ≡ true) cs → encodes cs ≡ xs → Last xs
+      by : (cs : List ℕ) → scalars cs ≡ true → AllByRecursion (λ c. p c ≡ true) cs → encodes cs ≡ xs → Last xs
       by [] s a e = let l : 0 ≡ length xs = ap length e in absurd (omega arith)
       by (c ∷ cs) s a e = subst Last e (last_of c cs s a)
 
@@ -85,7 +85,7 @@ module _ (p : ℕ → Bool) where
       let e : encodes (t.0 ++ b.0) ≡ encodes a.0 = encodes-append t.0 b.0 ∙ (λ i. t.1.1 i ++ b.3 i) ∙ take-append-drop k zs ∙ sym a.3 in
       let q : a.0 ≡ t.0 ++ b.0 = sym (encodes_same (t.0 ++ b.0) a.0 e) in
       let r : take (length t.0) a.0 ≡ t.0 = ap (take (length t.0)) q ∙ take_at t.0 b.0 (length t.0) refl in
-      (t.0, t.1.0, subst (All (λ c. p c ≡ true)) r (All-take (λ c. p c ≡ true) (length t.0) a.0 a.2), t.1.1)
+      (t.0, t.1.0, subst (AllByRecursion (λ c. p c ≡ true)) r (All-take (λ c. p c ≡ true) (length t.0) a.0 a.2), t.1.1)
 
   seam : (ys : List ℕ) (n k i : ℕ) (front : List ℕ) (d : ℕ) → n + k ≡ i → take k (drop n ys) ≡ front ++ encode d → take i ys ≡ (take n ys ++ front) ++ encode d
   seam ys n k i front d z e = ap (λ j. take j ys) (sym z) ∙ take-add n k ys ∙ ap (λ y. take n ys ++ y) e ∙ sym (append_assoc (take n ys) front (encode d))

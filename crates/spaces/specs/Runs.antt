@@ -1,7 +1,7 @@
 -- Runs of characters that pass a test, on bytes: a character is a well-formed sequence, and nothing else is.
 use Rattle.std.specs.Prelude.{◌≡◌, ℕ, zero, suc, ◌+◌, ◌-◌, ◌<◌, ◌≤◌, Bool, true, false, List, [], ◌∷◌, ◌++◌, length, take, drop, Some, None, Option, ◌==◌, ◌≢◌}
 use Rattle.std.proofs.Math.Utf8.{scalar, scalars, encode, encodes}
-use Rattle.std.specs.List.{AllByRecursion as All}
+use Rattle.std.specs.List.{AllByRecursion}
 use Rattle.utf8.specs.declared.Char.{Char}
 use Rattle.utf8.specs.Utf8.{char_at}
 
@@ -33,7 +33,7 @@ white_tail p xs = length xs - kept p xs
 
 -- the bytes are the encodings of scalar values that pass the test, one after another
 abbrev pub AllPass : (ℕ → Bool) → List ℕ → Type 0
-AllPass p xs = (cs : List ℕ) × (scalars cs ≡ true) × (All (λ c. p c ≡ true) cs) × (encodes cs ≡ xs)
+AllPass p xs = (cs : List ℕ) × (scalars cs ≡ true) × (AllByRecursion (λ c. p c ≡ true) cs) × (encodes cs ≡ xs)
 
 -- the first `n` bytes are all such characters, and the character behind them, if any, is not
 abbrev pub Longest : (ℕ → Bool) → List ℕ → ℕ → Type 0

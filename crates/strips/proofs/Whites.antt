@@ -2,7 +2,7 @@
 use Rattle.std.proofs.Common.{◌≡◌, ℕ, zero, suc, ◌+◌, ◌-◌, ◌<◌, ◌≤◌, min, Bool, true, false, eqb, ◌⊎◌, List, [], ◌∷◌, ◌++◌, length, get_or, take, drop, Decides, sym, refl, ap, ◌∙◌, subst, inl, inr, ⊎_elim, arith}
 use lib.Utf8.{encodes}
 use Rattle.std.specs.Str.{NoCharPasses, NonePass}
-use Rattle.std.specs.List.{AllByRecursion as All}
+use Rattle.std.specs.List.{AllByRecursion}
 use Rattle.std.proofs.lemmas.List.{append-nil, length-drop, length-take, get_or-drop, get_or-take, get_or_past, take_all}
 use Rattle.std.proofs.lemmas.Bool.{cases_Bool, cases_lt, both_ways, eqb-true, eq-eqb, or_cases, false≢true}
 use Rattle.std.proofs.lemmas.Str.{NoCharPasses-byte}
@@ -30,7 +30,7 @@ no_end c e =
     (λ f. f)
     (cases_Bool (is_line_end c))
 
-no_ends : (cs : List ℕ) → All (λ c. inline c ≡ true) cs → NonePass is_line_end cs
+no_ends : (cs : List ℕ) → AllByRecursion (λ c. inline c ≡ true) cs → NonePass is_line_end cs
 no_ends [] a = tt
 no_ends (c ∷ cs) a = (no_end c a.0, no_ends cs a.1)
 

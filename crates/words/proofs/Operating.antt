@@ -1,6 +1,6 @@
 -- The laws of first_standing: it finds the first operator with which the bytes begin.
 use Rattle.std.proofs.Common.{◌≡◌, ℕ, zero, suc, ◌<◌, true, false, List, [], ◌∷◌, length, get_or, drop, Some, None, Option, sym, refl, ap, ◌∙◌, subst, ⊎_elim, arith, lit<}
-use Rattle.std.specs.List.{AllByRecursion as All}
+use Rattle.std.specs.List.{AllByRecursion}
 use Rattle.std.proofs.lemmas.Bool.{cases_Bool, both_ways}
 use Rattle.byte_search.specs.Search.{stands_at}
 use Rattle.byte_search.proofs.Stands.{stands_split, stands_decides}
@@ -82,7 +82,7 @@ pub single_at : (r : Option Operator) (b n : ℕ) (rest : List ℕ) → b ≡ n 
 single_at r b n rest e f = f ∙ ap (λ x. first_standing singles (x ∷ rest)) (sym e)
 
 -- bytes that begin with none of the list
-pub none_stands : (os : List Operator) (xs : List ℕ) → All (λ o. stands_at (operator_text o) xs ≡ false) os → None ≡ first_standing os xs
+pub none_stands : (os : List Operator) (xs : List ℕ) → AllByRecursion (λ o. stands_at (operator_text o) xs ≡ false) os → None ≡ first_standing os xs
 unfolding first_standing
 none_stands [] xs a = refl
 none_stands (o ∷ os) xs a = none_stands os xs a.1 ∙ sym (first_later o os xs a.0)
