@@ -1,5 +1,5 @@
 -- The laws of shift_items.
-use Rattle.std.proofs.Common.{◌≡◌, ℕ, zero, suc, ◌+◌, ◌<◌, List, [], ◌∷◌, length, get_or, Some, None, Option, sym, refl, ap, ◌∙◌, subst, arith}
+use Rattle.std.proofs.Common.{◌≡◌, ℕ, zero, suc, ◌<◌, List, [], ◌∷◌, length, get_or, Some, None, Option, sym, refl, ap, ◌∙◌, arith}
 use Rattle.places.specs.declared.Place.{Place}
 use Rattle.layers.specs.Layers.{first_line, noted, shift_items, shifted_items, shifted_ending, Shifts}
 

@@ -1,5 +1,5 @@
 -- Tags of raw blocks in words: how their bytes are spelt.
-use Rattle.std.proofs.Common.{◌≡◌, ℕ, zero, suc, ◌+◌, ◌-◌, ◌<◌, ◌≤◌, Bool, true, false, ◌&&◌, eqb, ◌⊎◌, List, [], ◌∷◌, ◌++◌, length, get_or, take, drop, Some, None, Option, sym, refl, ap, ◌∙◌, subst, inl, inr, ⊎_elim, arith, take-add}
+use Rattle.std.proofs.Common.{◌≡◌, ℕ, suc, ◌+◌, ◌-◌, ◌<◌, ◌≤◌, true, false, ◌&&◌, eqb, List, [], ◌∷◌, ◌++◌, length, take, drop, Some, None, Option, sym, refl, ap, ◌∙◌, subst, ⊎_elim, arith, take-add}
 use Rattle.std.proofs.lemmas.List.{append_assoc, take_at, drop-drop, length-take, get_or-take}
 use Rattle.std.proofs.lemmas.Bool.{cases_Bool, and_parts, or_cases, eqb-true}
 use Rattle.byte_search.specs.Search.{stands_at}
@@ -12,7 +12,7 @@ use Rattle.rules.specs.declared.Whitespace.TheVariants.{Default, Preserve, Remov
 use Rattle.rules.specs.Bytes.{is_sign, sign_of, sign_at, sign_len}
 use Rattle.rules.specs.Config.{Config}
 use Rattle.rules.specs.Texts.{Basic, basic_end, basic_tag, endraw_name, closer_by, closer_at}
-use Rattle.raws.specs.Closers.{Blanks, sign_text, Spelt, TagSpelt, CloserSpelt}
+use Rattle.raws.specs.Closers.{Blanks, sign_text, TagSpelt, CloserSpelt}
 use Rattle.raws.proofs.Tags.{end_signed, end_bare, end_none, tag_none, tag_on, closer_none, closer_on}
 
 -- what stands in front is the front

@@ -1,11 +1,10 @@
 -- Tags of raw blocks: what stands in front, step by step, and that it lies in the bytes.
-use Rattle.std.proofs.Common.{◌≡◌, ℕ, zero, suc, ◌+◌, ◌-◌, ◌<◌, ◌≤◌, Bool, true, false, ◌&&◌, ◌⊎◌, List, [], ◌∷◌, ◌++◌, length, get_or, take, drop, Some, None, Option, sym, refl, ap, ◌∙◌, subst, inl, inr, ⊎_elim, arith}
+use Rattle.std.proofs.Common.{◌≡◌, ℕ, suc, ◌+◌, ◌<◌, ◌≤◌, Bool, true, false, ◌&&◌, List, [], ◌∷◌, length, get_or, drop, Some, None, Option, sym, ap, ◌∙◌, subst, ⊎_elim, arith}
 use Rattle.std.proofs.lemmas.List.{length-drop, drop_more, drop_all}
-use Rattle.std.proofs.lemmas.Bool.{cases_Bool, cases_lt, and_parts, both_ways}
+use Rattle.std.proofs.lemmas.Bool.{cases_Bool, cases_lt, and_parts}
 use Rattle.byte_search.specs.Search.{stands_at}
 use Rattle.byte_search.proofs.Stands.{stands_fits}
 use Rattle.spaces.specs.Lines.{blank_run}
-use Rattle.spaces.proofs.Lines.{blank_longest}
 use Rattle.rules.specs.declared.EndRaw.{EndRaw}
 use Rattle.rules.specs.declared.Whitespace.{Whitespace}
 use Rattle.rules.specs.declared.Whitespace.TheVariants.{Default, Preserve, Remove}

@@ -1,5 +1,5 @@
 -- What a call does to a view of a reader at a place of a template.
-use Rattle.std.proofs.Common.{◌≡◌, ℕ, ◌+◌, ◌-◌, ◌<◌, ◌≤◌, Bool, true, List, [], length, take, drop, ℤ, Some, None, Option, sym, refl, ap, ◌∙◌, subst, arith}
+use Rattle.std.proofs.Common.{◌≡◌, ℕ, ◌+◌, ◌-◌, ◌<◌, ◌≤◌, Bool, true, List, [], length, take, drop, ℤ, Some, None, Option, sym, ap, ◌∙◌, subst, arith}
 use Rattle.std.proofs.lemmas.List.{take-take}
 use Rattle.finder.specs.Finding.{Opening}
 use Rattle.stream.specs.declared.answer.Answer.TheVariants.{Item, End as Ends}
@@ -17,13 +17,13 @@ use Rattle.rules.specs.declared.Verdict.TheVariants.{Piece, End, Fault}
 use Rattle.rules.specs.At.{core_at, place_at, part_at, cut_part}
 use Rattle.rules.specs.Bytes.{pushes, behind_at}
 use Rattle.rules.specs.Config.{Config, Ended}
-use Rattle.rules.specs.Reading.{Gives, Stops, Done, Failing, act, balance_at}
+use Rattle.rules.specs.Reading.{act, balance_at}
 use Rattle.rules.specs.Shapes.{held, least, Fits}
 use Rattle.rules.specs.Texts.{verdict_by, verdict}
 use Rattle.rules.specs.Told.{placed, fault_span}
 use Rattle.rules.proofs.Outside.{verdict_fits}
 use Rattle.rules.proofs.Whole.{ahead_length, place_on, place_end, act_piece, act_end, act_cut, act_fault, fine_at}
-use Rattle.reader.specs.Views.{View, Told, tell_by}
+use Rattle.reader.specs.Views.{View, tell_by}
 
 module _ (t : List ℕ) (n i : ℕ) (m : LexerState) (w : Pending) (e : Bool) (b : ℤ) (o : Option (Ending ReadFault)) where
   abbrev pub view_at : View

@@ -1,7 +1,6 @@
 -- A reader that moves over bytes.
-use Rattle.std.proofs.Common.{◌≡◌, ℕ, zero, suc, ◌+◌, ◌-◌, ◌<◌, ◌≤◌, min, List, [], ◌∷◌, length, take, drop, ℤ, pos, negsuc, sym, refl, ap, ◌∙◌, subst, arith}
+use Rattle.std.proofs.Common.{◌≡◌, ℕ, ◌+◌, ◌≤◌, min, List, length, take, drop, ℤ, pos, negsuc, sym, refl, ap, ◌∙◌, arith}
 use Rattle.places.specs.declared.Place.{Place}
-use Rattle.places.specs.declared.Span.{Span}
 use Rattle.places.specs.Places.{beyond, capped, offset_cap}
 use Rattle.places.proofs.Advances.{capped_beyond}
 use Rattle.pieces.specs.declared.piece.Piece.{Piece}

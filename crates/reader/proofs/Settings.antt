@@ -1,6 +1,5 @@
 -- What settings give a reader: ends that have bytes, and openings that have bytes and differ.
-use Rattle.std.proofs.Common.{◌≡◌, ℕ, ◌<◌, List, [], ◌∷◌, length, get_or, sym, refl, ap, ◌∙◌, subst, arith}
-use Rattle.std.specs.List.{ContainsAt as Has}
+use Rattle.std.proofs.Common.{refl}
 use Rattle.syntax.specs.declared.name.DelimiterName.TheVariants.{VariableEnd, BlockEnd}
 use Rattle.syntax.specs.declared.settings.Settings.{Settings}
 use Rattle.syntax.specs.Building.{table_of}

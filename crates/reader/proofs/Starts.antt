@@ -1,5 +1,5 @@
 -- A reader of which nothing is read.
-use Rattle.std.proofs.Common.{◌≡◌, ℕ, true, false, List, [], length, pos, None, sym, refl, ap, ◌∙◌}
+use Rattle.std.proofs.Common.{◌≡◌, ℕ, true, false, List, [], length, pos, None, sym, refl, ap}
 use Rattle.places.specs.Places.{beyond, first_place, capped}
 use Rattle.places.proofs.Advances.{beyond_none}
 use Rattle.rules.specs.declared.LexerState.{LexerState}

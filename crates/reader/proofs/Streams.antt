@@ -1,5 +1,5 @@
 -- A reader is a stream.
-use Rattle.std.proofs.Common.{◌≡◌, ℕ, ◌+◌, ◌<◌, ◌≤◌, Bool, List, length, sym, refl, ap, ◌∙◌, subst}
+use Rattle.std.proofs.Common.{◌≡◌, ℕ, ◌+◌, ◌<◌, ◌≤◌, Bool, List, length, sym, ap, ◌∙◌, subst}
 use Rattle.finder.specs.Finding.{Opening, Same}
 use Rattle.stream.specs.declared.answer.Answer.{Answer}
 use Rattle.stream.specs.declared.answer.Ending.{Ending}
@@ -16,7 +16,7 @@ use Rattle.rules.specs.Reading.{Unread, meaning}
 use Rattle.rules.specs.Shapes.{held, least}
 use Rattle.rules.proofs.Fuel.{FineAt, meaning_ends}
 use Rattle.rules.proofs.Whole.{fine_at}
-use Rattle.reader.specs.Views.{View, Told, tell, items_of, ending_of, left_of}
+use Rattle.reader.specs.Views.{View, tell, items_of, ending_of, left_of}
 use Rattle.reader.proofs.Settings.{ended, apart}
 use Rattle.reader.proofs.Tells.{tells, falls, same_tell}
 

@@ -1,16 +1,14 @@
 -- What a call tells is the first of what a reader means.
-use Rattle.std.proofs.Common.{◌≡◌, ℕ, suc, ◌+◌, ◌-◌, ◌<◌, ◌≤◌, List, [], ◌∷◌, length, Some, None, Option, sym, refl, ap, ◌∙◌, subst, arith}
+use Rattle.std.proofs.Common.{◌≡◌, suc, List, [], ◌∷◌, Some, None, Option, sym, refl, ap, ◌∙◌, subst, arith}
 use Rattle.finder.specs.Finding.{Opening, Same}
-use Rattle.stream.specs.declared.answer.Answer.TheVariants.{Item, End}
+use Rattle.stream.specs.declared.answer.Answer.TheVariants.{End}
 use Rattle.stream.specs.declared.answer.Ending.{Ending}
 use Rattle.stream.specs.Told.{Next, Falls}
 use Rattle.places.specs.declared.Place.{Place}
 use Rattle.places.specs.Places.{beyond}
 use Rattle.pieces.specs.declared.fault.ReadFault.{ReadFault}
 use Rattle.rules.specs.Config.{Config, Ended}
-use Rattle.rules.specs.Reading.{Part, Stop, Call, Gives, Stops, act, call, Parts, first, only, go_on, measure, meaning, balance_at}
-use Rattle.rules.specs.State.{Core}
-use Rattle.rules.specs.Texts.{verdict}
+use Rattle.rules.specs.Reading.{Part, Stop, Call, Gives, Stops, act, call, Parts, first, only, go_on, measure, meaning}
 use Rattle.rules.specs.Told.{placed, pieces, behind, ended, ending}
 use Rattle.rules.proofs.Fuel.{FineAt, Steps, call_steps, meaning_step}
 use Rattle.rules.proofs.Lawful.{Apart, same_verdict}

@@ -1,5 +1,5 @@
 -- What a reader is to the rules, and what its calls tell.
-use Rattle.std.specs.Prelude.{ℕ, suc, false, List, [], ℤ, pos, Some, None, Option}
+use Rattle.std.specs.Prelude.{ℕ, suc, List, [], ℤ, pos, Some, None, Option}
 use Rattle.finder.specs.Finding.{Opening, Same}
 use Rattle.stream.specs.declared.answer.Answer.{Answer}
 use Rattle.stream.specs.declared.answer.Answer.TheVariants.{Item, End}
@@ -8,12 +8,11 @@ use Rattle.places.specs.declared.Place.{Place}
 use Rattle.places.specs.Places.{beyond, first_place}
 use Rattle.pieces.specs.declared.fault.ReadFault.{ReadFault}
 use Rattle.pieces.specs.declared.piece.Piece.{Piece}
-use Rattle.syntax.specs.declared.settings.Settings.{Settings}
 use Rattle.syntax.specs.Openings.{openings_of}
 use Rattle.rules.specs.declared.LexerState.{LexerState}
 use Rattle.rules.specs.Config.{Config, config_of}
 use Rattle.rules.specs.At.{core_at, place_at}
-use Rattle.rules.specs.Reading.{Call, Gives, Stops, call, Parts, measure, meaning, starting, balance_at}
+use Rattle.rules.specs.Reading.{Call, Gives, Stops, call, measure, meaning, starting, balance_at}
 use Rattle.rules.specs.State.{Core}
 use Rattle.rules.specs.Told.{placed, pieces, ended, ending}
 use Rattle.reader.specs.declared.reader.Reader.{Reader}

@@ -1,11 +1,11 @@
 -- One call of a reading: how many calls are allowed does not matter, if they are enough.
-use Rattle.std.proofs.Common.{◌≡◌, ℕ, zero, suc, ◌+◌, ◌-◌, ◌*◌, ◌<◌, ◌≤◌, Bool, true, false, List, [], ◌∷◌, length, take, drop, sym, refl, ap, ◌∙◌, subst, arith}
+use Rattle.std.proofs.Common.{◌≡◌, ℕ, zero, suc, ◌<◌, List, [], ◌∷◌, length, sym, refl, ap, ◌∙◌, arith}
 use Rattle.std.proofs.lemmas.List.{length-drop}
 use Rattle.finder.specs.Finding.{Opening}
 use Rattle.rules.specs.declared.Verdict.{Verdict}
 use Rattle.rules.specs.declared.Verdict.TheVariants.{Piece, End, Fault}
 use Rattle.rules.specs.Config.{Config, Ended}
-use Rattle.rules.specs.Reading.{Part, Stop, Done, Failing, Unread, Call, Gives, Stops, finish, act, call, Parts, first, only, go_on, reading, rank, cut_rank, measure, meaning}
+use Rattle.rules.specs.Reading.{Unread, Call, Gives, Stops, finish, act, call, Parts, first, only, go_on, reading, cut_rank, measure, meaning}
 use Rattle.rules.specs.Shapes.{Fits}
 use Rattle.rules.specs.State.{Core}
 use Rattle.rules.specs.Texts.{verdict}

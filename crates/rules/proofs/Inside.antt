@@ -1,7 +1,6 @@
 -- Verdicts inside tags fit what is ahead.
-use Rattle.std.proofs.Common.{◌≡◌, ℕ, zero, suc, ◌+◌, ◌-◌, ◌*◌, ◌^◌, ◌<◌, ◌≤◌, Bool, true, false, ◌&&◌, ◌||◌, eqb, ltb, ◌⊎◌, List, [], ◌∷◌, length, get_or, take, drop, ℤ, pos, negsuc, ◌+ℤ◌, Some, None, Ok, Err, Option, Result, sym, refl, ap, ◌∙◌, subst, inl, inr, ⊎_elim, arith, eqb-true}
+use Rattle.std.proofs.Common.{◌≡◌, ℕ, zero, suc, ◌+◌, ◌^◌, ◌<◌, ◌≤◌, Bool, true, false, ◌&&◌, ◌||◌, eqb, ltb, List, [], ◌∷◌, length, take, drop, ℤ, pos, negsuc, ◌+ℤ◌, Some, None, Ok, Err, Option, Result, sym, refl, ap, subst, ⊎_elim, arith}
 use lib.IntN.{suc_ℤ, pred_ℤ, +ℤ_one, -ℤ_one, +ℤ_idr}
-use borrow.Author.Tests.{eqb-false}
 use Rattle.std.proofs.lemmas.List.{length-drop, length-take}
 use Rattle.std.proofs.lemmas.Bool.{cases_Bool, both_ways, and_parts}
 use Rattle.std.proofs.lemmas.Bool.Decides.{nat_tests}
@@ -12,31 +11,31 @@ use Rattle.spaces.specs.Runs.{white_run}
 use Rattle.escape.specs.declared.fault.DecodeFault.{DecodeFault}
 use Rattle.decode.specs.Decoding.{decoded_len}
 use Rattle.pieces.specs.declared.kind.Kind.{Kind}
-use Rattle.pieces.specs.declared.kind.Kind.TheVariants.{VariableEnd, BlockEnd, Ident, Str, String, Int, Big, Float, Operator as Operates, White}
+use Rattle.pieces.specs.declared.kind.Kind.TheVariants.{BlockEnd, Ident, Str, Int, Big, Float, White}
 use Rattle.pieces.specs.declared.kind.Operator.{Operator}
 use Rattle.pieces.specs.declared.kind.Operator.TheVariants.{Plus, Minus, Mul, Div, FloorDiv, Pow, Mod, Dot, Comma, Colon, Tilde, Assign, Pipe, Eq, Ne, Gt, Gte, Lt, Lte, BracketOpen, BracketClose, ParenOpen, ParenClose, BraceOpen, BraceClose}
-use Rattle.pieces.specs.declared.fault.FaultKind.TheVariants.{UnendedString, NoToken, TrailingUnderscore, NoExponent, BadInteger, Escape}
+use Rattle.pieces.specs.declared.fault.FaultKind.TheVariants.{UnendedString, NoToken, TrailingUnderscore, BadInteger}
 use Rattle.pieces.specs.Kinds.{operator_text}
 use Rattle.rules.specs.declared.BlockSentinel.{BlockSentinel}
 use Rattle.rules.specs.declared.BlockSentinel.TheVariants.{Variable, Block, LineStatement, Expression}
 use Rattle.rules.specs.declared.LexerState.{LexerState}
-use Rattle.rules.specs.declared.LexerState.TheVariants.{Template, Inside, Over}
+use Rattle.rules.specs.declared.LexerState.TheVariants.{Template, Inside}
 use Rattle.rules.specs.declared.NumberState.{NumberState}
 use Rattle.rules.specs.declared.NumberState.TheVariants.{RadixInteger, Integer, Fraction, Exponent, ExponentSign, ExponentDigits}
 use Rattle.rules.specs.declared.Pending.{Pending}
-use Rattle.rules.specs.declared.Pending.TheVariants.{Nothing, Trim, Tail, Marker, RawBody, RawClose}
+use Rattle.rules.specs.declared.Pending.TheVariants.{Nothing}
 use Rattle.rules.specs.declared.Verdict.{Verdict}
-use Rattle.rules.specs.declared.Verdict.TheVariants.{Piece, End, Fault}
+use Rattle.rules.specs.declared.Verdict.TheVariants.{Fault}
 use Rattle.rules.specs.declared.Whitespace.{Whitespace}
 use Rattle.rules.specs.declared.Whitespace.TheVariants.{Default, Preserve, Remove}
 use Rattle.rules.specs.Config.{Config, Ended, inline_white}
 use Rattle.rules.specs.Bytes.{is_digit, is_sign, sign_of, leads_name, is_name_part, run, last_is}
 use Rattle.rules.specs.Numbers.{base_of, turn, scan, Scanned, longer, value_of, integer, number_by, scanned, number}
-use Rattle.rules.specs.Reading.{rank, tag_rank, wait_rank}
-use Rattle.rules.specs.Shapes.{held, least, magnitude, level, Fits}
+use Rattle.rules.specs.Reading.{wait_rank}
+use Rattle.rules.specs.Shapes.{held, least, magnitude, Fits}
 use Rattle.rules.specs.State.{told, plain}
 use Rattle.rules.specs.Strings.{quote_end, decoded, string_of, string}
-use Rattle.rules.specs.Tags.{tail_of, tail, operators, first_standing, weight, dot_behind, literal, token_by, token, end_of, trim_by, closing, closes, close_by, is_zero, close, inside, blanks, line_rest, statement_end, tag_end, tag_verdict}
+use Rattle.rules.specs.Tags.{tail_of, tail, operators, first_standing, weight, dot_behind, literal, token_by, token, end_of, trim_by, closing, closes, close_by, is_zero, close, blanks, line_rest, statement_end, tag_end, tag_verdict}
 use Rattle.rules.proofs.Lengths.{run_le, blank_le, white_le, line_end_le, Below, quote_le, scan_le}
 
 -- what waits has a byte where it should, and is ahead

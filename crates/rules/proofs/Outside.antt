@@ -1,7 +1,7 @@
 -- Verdicts in text fit what is ahead.
-use Rattle.std.proofs.Common.{◌≡◌, ℕ, zero, suc, ◌+◌, ◌-◌, ◌*◌, ◌<◌, ◌≤◌, Bool, true, false, ◌&&◌, ◌||◌, eqb, ◌⊎◌, List, [], ◌∷◌, length, get_or, take, drop, pos, Some, None, Option, sym, refl, ap, ◌∙◌, subst, inl, inr, ⊎_elim, arith}
+use Rattle.std.proofs.Common.{◌≡◌, ℕ, zero, suc, ◌+◌, ◌-◌, ◌<◌, ◌≤◌, Bool, true, false, ◌&&◌, eqb, List, [], ◌∷◌, length, get_or, take, drop, Some, None, Option, sym, refl, subst, ⊎_elim, arith}
 use Rattle.std.proofs.lemmas.List.{length-drop, length-take}
-use Rattle.std.proofs.lemmas.Bool.{cases_Bool, both_ways, and_parts}
+use Rattle.std.proofs.lemmas.Bool.{cases_Bool, and_parts}
 use Rattle.byte_search.specs.Search.{stands_at, distance_to}
 use Rattle.byte_search.proofs.Stands.{stands_fits}
 use Rattle.finder.specs.declared.StartMarker.{StartMarker}
@@ -15,16 +15,13 @@ use Rattle.rules.specs.declared.LexerState.{LexerState}
 use Rattle.rules.specs.declared.LexerState.TheVariants.{Template, Inside, Over}
 use Rattle.rules.specs.declared.Pending.{Pending}
 use Rattle.rules.specs.declared.Pending.TheVariants.{Nothing, Trim, Tail, Marker, RawBody, RawClose}
-use Rattle.rules.specs.declared.Verdict.{Verdict}
-use Rattle.rules.specs.declared.Verdict.TheVariants.{Piece, End, Fault}
+use Rattle.rules.specs.declared.Verdict.TheVariants.{Fault}
 use Rattle.rules.specs.declared.Whitespace.{Whitespace}
 use Rattle.rules.specs.declared.Whitespace.TheVariants.{Default, Preserve, Remove}
 use Rattle.rules.specs.Config.{Config, Ended, white, inline_white}
 use Rattle.rules.specs.Bytes.{is_sign, sign_of, sign_at, sign_len, in_line, run, pushes}
-use Rattle.rules.specs.Reading.{rank, wait_rank}
-use Rattle.rules.specs.Shapes.{held, least, level, Fits}
-use Rattle.rules.specs.State.{Core, told, plain}
-use Rattle.rules.specs.Tags.{tail}
+use Rattle.rules.specs.Shapes.{Fits}
+use Rattle.rules.specs.State.{Core}
 use Rattle.rules.specs.Texts.{due, left_over, stripped, lead, Basic, basic_end, basic_tag, raw_name, endraw_name, closer_by, closer_at, Far, away, find_closer, raw_from, raw_to, raw_text_by, raw_body, closing_sign, comment_by, comment, line_comment_here, block_by, opened, gap_then, lead_then, opening_sign, met, real, text, trimmed, text_verdict, over_verdict, verdict_by, verdict}
 use Rattle.rules.proofs.Lengths.{run_le, blank_le, white_le, kept_within, line_end_le, Reached, distance_le, Within, found_within}
 use Rattle.rules.proofs.Inside.{Fine, tailed, tag_fits}

@@ -1,8 +1,7 @@
 -- A reading at a place of a template: what one call takes off.
-use Rattle.std.proofs.Common.{◌≡◌, ℕ, zero, suc, ◌+◌, ◌-◌, ◌*◌, ◌<◌, ◌≤◌, min, Bool, true, false, List, [], ◌∷◌, ◌++◌, length, take, drop, None, sym, refl, ap, ◌∙◌, subst, arith, take-add}
+use Rattle.std.proofs.Common.{◌≡◌, ℕ, ◌+◌, ◌-◌, ◌<◌, ◌≤◌, Bool, true, List, [], ◌∷◌, ◌++◌, length, take, drop, None, sym, refl, ap, ◌∙◌, arith, take-add}
 use lib.Seq.{take-length}
 use Rattle.std.proofs.lemmas.List.{length-drop, length-take, drop-drop, drop-take, take-take, drop_all, take-append-drop, take_rest}
-use Rattle.places.specs.declared.Place.{Place}
 use Rattle.places.specs.Places.{beyond, first_place}
 use Rattle.places.proofs.Advances.{beyond_append, beyond_offset}
 use Rattle.pieces.specs.declared.kind.Kind.TheVariants.{Cut}

@@ -1,5 +1,5 @@
 -- A reading at a place of a template.
-use Rattle.std.specs.Prelude.{ℕ, ◌+◌, Bool, List, length, take, drop, None}
+use Rattle.std.specs.Prelude.{ℕ, Bool, List, length, take, drop, None}
 use Rattle.places.specs.declared.Place.{Place}
 use Rattle.places.specs.Places.{beyond, first_place}
 use Rattle.pieces.specs.declared.kind.Kind.TheVariants.{Cut}

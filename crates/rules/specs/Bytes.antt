@@ -1,5 +1,5 @@
 -- Bytes: signs, names, runs, and the line that was read so far.
-use Rattle.std.specs.Prelude.{◌≡◌, ℕ, zero, suc, ◌<◌, ◌≤◌, Bool, true, false, not, ◌&&◌, ◌||◌, List, [], ◌∷◌, length, take, ◌==◌, nat_le, slice_index}
+use Rattle.std.specs.Prelude.{◌≡◌, ℕ, suc, ◌<◌, ◌≤◌, Bool, true, false, not, ◌&&◌, ◌||◌, List, [], ◌∷◌, length, take, ◌==◌, nat_le, slice_index}
 use Rattle.finder.specs.Finding.{is_line_end}
 use Rattle.rules.specs.declared.Whitespace.{Whitespace}
 use Rattle.rules.specs.declared.Whitespace.TheVariants.{Default, Preserve, Remove}

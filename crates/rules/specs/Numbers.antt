@@ -1,5 +1,5 @@
 -- Numbers.
-use Rattle.std.specs.Prelude.{ℕ, zero, suc, ◌+◌, ◌-◌, ◌*◌, ◌^◌, Bool, true, false, not, ◌&&◌, ◌||◌, List, [], ◌∷◌, length, take, drop, Some, None, Option, ◌==◌, nat_lt}
+use Rattle.std.specs.Prelude.{ℕ, suc, ◌+◌, ◌*◌, ◌^◌, Bool, true, false, not, ◌&&◌, ◌||◌, List, [], ◌∷◌, take, drop, Some, None, Option, ◌==◌, nat_lt}
 use Rattle.pieces.specs.declared.kind.Kind.TheVariants.{Int, Big, Float}
 use Rattle.pieces.specs.declared.fault.FaultKind.TheVariants.{TrailingUnderscore, NoExponent, BadInteger}
 use Rattle.escape.specs.Escapes.{hex_value}

@@ -1,5 +1,5 @@
 -- One call of next, and whole readings.
-use Rattle.std.specs.Prelude.{ℕ, zero, suc, ◌+◌, ◌*◌, Bool, true, false, List, [], ◌∷◌, length, take, drop, ℤ, pos, Some, None, Option, ◌==◌}
+use Rattle.std.specs.Prelude.{ℕ, zero, suc, ◌+◌, ◌*◌, true, false, List, [], ◌∷◌, length, take, drop, ℤ, pos, None, Option, ◌==◌}
 use Rattle.finder.specs.Finding.{Opening}
 use Rattle.pieces.specs.declared.kind.Kind.{Kind}
 use Rattle.pieces.specs.declared.kind.Kind.TheVariants.{Cut}

@@ -1,10 +1,8 @@
 -- The state of a reading, and the pieces that the rules tell.
-use Rattle.std.specs.Prelude.{ℕ, Bool, List, Some, None, Option}
+use Rattle.std.specs.Prelude.{ℕ, Bool, List, None, Option}
 use Rattle.pieces.specs.declared.kind.Kind.{Kind}
 use Rattle.rules.specs.declared.LexerState.{LexerState}
 use Rattle.rules.specs.declared.Pending.{Pending}
-use Rattle.rules.specs.declared.Pending.TheVariants.{Nothing}
-use Rattle.rules.specs.declared.Step.{Step}
 use Rattle.rules.specs.declared.Verdict.{Verdict}
 use Rattle.rules.specs.declared.Verdict.TheVariants.{Piece}
 

@@ -1,6 +1,6 @@
 -- Strings.
-use Rattle.std.specs.Prelude.{ℕ, zero, suc, ◌+◌, Bool, true, false, List, [], ◌∷◌, length, take, Some, None, Ok, Err, Option, Result, ◌==◌}
-use Rattle.byte_search.specs.Search.{is_in, first_in, further}
+use Rattle.std.specs.Prelude.{ℕ, suc, ◌+◌, Bool, true, false, List, [], ◌∷◌, length, take, Some, None, Ok, Err, Option, Result, ◌==◌}
+use Rattle.byte_search.specs.Search.{first_in, further}
 use Rattle.escape.specs.declared.fault.DecodeFault.{DecodeFault}
 use Rattle.decode.specs.Decoding.{decoded_len}
 use Rattle.pieces.specs.declared.kind.Kind.TheVariants.{Str, String}

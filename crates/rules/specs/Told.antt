@@ -1,5 +1,5 @@
 -- The pieces of a reading at their places.
-use Rattle.std.specs.Prelude.{ℕ, zero, suc, ◌+◌, min, List, [], ◌∷◌, length, take, drop}
+use Rattle.std.specs.Prelude.{◌+◌, min, List, [], ◌∷◌}
 use Rattle.stream.specs.declared.answer.Ending.{Ending}
 use Rattle.stream.specs.declared.answer.Ending.TheVariants.{Finished, Failed}
 use Rattle.places.specs.declared.Place.{Place}
@@ -9,7 +9,6 @@ use Rattle.pieces.specs.declared.fault.FaultKind.{FaultKind}
 use Rattle.pieces.specs.declared.fault.FaultKind.TheVariants.{UnendedComment, UnendedRaw, UnendedString, NoToken, TrailingUnderscore, NoExponent, BadInteger, AfterExpression, Escape}
 use Rattle.pieces.specs.declared.fault.ReadFault.{ReadFault}
 use Rattle.pieces.specs.declared.piece.Piece.{Piece}
-use Rattle.pieces.specs.declared.piece.TextRange.{TextRange}
 use Rattle.rules.specs.Reading.{Part, Stop, Done, Failing, Unread, Parts}
 
 -- places are counted without a cap and capped when they are told

@@ -1,7 +1,7 @@
 -- The bytes behind a place, and the line that they begin.
-use Rattle.std.proofs.Common.{◌≡◌, ℕ, zero, suc, ◌+◌, ◌-◌, ◌<◌, ◌≤◌, Bool, true, false, eqb, ◌⊎◌, List, [], ◌∷◌, ◌++◌, length, get_or, take, drop, sym, refl, ap, ◌∙◌, subst, inl, inr, ⊎_elim, add-one, arith, take-add}
-use Rattle.std.proofs.lemmas.List.{append_assoc, length-take-le, take_more, take_all, drop-append-le, drop_all}
-use Rattle.std.proofs.lemmas.Bool.{cases_Bool, cases_lt, eqb-true, or_left, or_right, or_cases, or_parts}
+use Rattle.std.proofs.Common.{◌≡◌, ℕ, zero, suc, ◌+◌, ◌-◌, ◌<◌, ◌≤◌, true, false, eqb, List, [], ◌∷◌, ◌++◌, length, get_or, take, drop, sym, refl, ap, ◌∙◌, subst, inl, inr, ⊎_elim, add-one, arith, take-add}
+use Rattle.std.proofs.lemmas.List.{append_assoc, length-take-le, take_more, drop-append-le, drop_all}
+use Rattle.std.proofs.lemmas.Bool.{cases_Bool, cases_lt, or_parts}
 use Rattle.finder.specs.Finding.{is_line_end}
 use Rattle.rules.specs.Bytes.{push, pushes, behind_at, line_before}
 use Rattle.strips.specs.Lines.{LineBegins}

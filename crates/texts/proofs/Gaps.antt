@@ -1,7 +1,5 @@
 -- Comments, and what waits behind an end.
-use Rattle.std.proofs.Common.{◌≡◌, ℕ, zero, suc, ◌+◌, ◌-◌, ◌<◌, ◌≤◌, Bool, true, false, ◌⊎◌, List, [], ◌∷◌, length, take, drop, Some, None, Option, sym, refl, ap, ◌∙◌, subst, inl, inr, ⊎_elim, arith}
-use Rattle.std.proofs.lemmas.List.{length-drop}
-use Rattle.std.proofs.lemmas.Bool.{cases_Bool}
+use Rattle.std.proofs.Common.{◌≡◌, ℕ, zero, suc, ◌+◌, ◌≤◌, true, false, List, length, drop, Some, None, sym, refl, ap, ◌∙◌, subst, ⊎_elim, arith}
 use Rattle.byte_search.specs.Search.{distance_to, First, Stands}
 use Rattle.spaces.specs.Lines.{line_end, LineEnd}
 use Rattle.spaces.proofs.Lines.{line_told}
@@ -11,7 +9,7 @@ use Rattle.rules.specs.declared.LexerState.TheVariants.{Template}
 use Rattle.rules.specs.declared.Pending.{Pending}
 use Rattle.rules.specs.declared.Pending.TheVariants.{Nothing}
 use Rattle.rules.specs.declared.Verdict.{Verdict}
-use Rattle.rules.specs.declared.Verdict.TheVariants.{Piece, End, Fault}
+use Rattle.rules.specs.declared.Verdict.TheVariants.{Fault}
 use Rattle.rules.specs.declared.Whitespace.{Whitespace}
 use Rattle.rules.specs.declared.Whitespace.TheVariants.{Default, Preserve, Remove}
 use Rattle.rules.specs.Bytes.{in_line, run, LongestRun}

@@ -1,5 +1,4 @@
-use Rattle.std.proofs.Common.{◌≡◌, ◌+◌, length, Some, None, sym, ap, ◌∙◌, subst}
-use Rattle.rules.specs.declared.EndRaw.{EndRaw}
+use Rattle.std.proofs.Common.{◌+◌, length, Some, None, sym, ◌∙◌, subst}
 use Rattle.rules.specs.Config.{config_of}
 use Rattle.raws.proofs.Tags.{CloserTold, at_none, at_on}
 use Rattle.raws.proofs.Spells.{closer_spelt_by}

@@ -1,4 +1,4 @@
-use Rattle.std.proofs.Common.{◌≡◌, true, false, take, drop, refl, arith}
+use Rattle.std.proofs.Common.{true, false, refl, arith}
 use Rattle.rules.specs.Config.{config_of}
 use Rattle.strips.proofs.Strips.{lead_remove, lead_preserve, lead_default, text_of}
 use Rattle.strips.proofs.lead.Goals as goal

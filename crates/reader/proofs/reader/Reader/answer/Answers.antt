@@ -1,5 +1,4 @@
-use Rattle.std.proofs.Common.{◌≡◌, ◌+◌, ◌-◌, ◌≤◌, length, sym, refl, ap, ◌∙◌, subst, arith}
-use Rattle.rules.specs.declared.Verdict.TheVariants.{Piece, End, Fault}
+use Rattle.std.proofs.Common.{◌≡◌, ◌+◌, ◌-◌, ◌≤◌, length, sym, ap, ◌∙◌, subst, arith}
 use Rattle.rules.specs.Reading.{act}
 use Rattle.rules.specs.Shapes.{Forward, Fits}
 use Rattle.reader.specs.Views.{view_of, tell_by}

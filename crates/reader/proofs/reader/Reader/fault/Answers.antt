@@ -1,4 +1,4 @@
-use Rattle.std.proofs.Common.{◌+◌, refl, ap}
+use Rattle.std.proofs.Common.{◌+◌, ap}
 use Rattle.rules.specs.At.{place_at}
 use Rattle.reader.proofs.Moves.{advanced}
 use Rattle.reader.proofs.reader.Reader.fault.Goals as goal

@@ -1,8 +1,7 @@
-use Rattle.std.proofs.Common.{◌≡◌, Some, None, sym, refl, ap, ◌∙◌, subst}
-use Rattle.stream.specs.declared.answer.Answer.TheVariants.{End}
+use Rattle.std.proofs.Common.{sym, refl, ap, ◌∙◌}
 use Rattle.syntax.specs.Openings.{openings_of}
-use Rattle.rules.specs.Reading.{act, call}
-use Rattle.reader.specs.Views.{View, Told, view_of, config, tell_by, tell}
+use Rattle.rules.specs.Reading.{act}
+use Rattle.reader.specs.Views.{view_of, config, tell_by}
 use Rattle.reader.proofs.Settings.{apart}
 use Rattle.reader.proofs.Streams.{ends_told}
 use Rattle.reader.proofs.Tells.{same_tell, told_before, told_now}

@@ -1,9 +1,8 @@
-use Rattle.std.proofs.Common.{◌≡◌, ◌+◌, ◌≤◌, length, sym, refl, ap, ◌∙◌, subst, arith, w64, SFits, to_z, of_z, rules}
+use Rattle.std.proofs.Common.{◌≡◌, ◌+◌, ◌≤◌, sym, refl, ap, ◌∙◌, subst, arith, w64, SFits, to_z, of_z, rules}
 use Rattle.std.proofs.lemmas.Int.{to_z-of_z}
-use Rattle.places.specs.Places.{capped}
 use Rattle.rules.specs.At.{core_at, place_at, part_at}
 use Rattle.rules.specs.Reading.{balance_at}
-use Rattle.rules.specs.Shapes.{held, level, magnitude}
+use Rattle.rules.specs.Shapes.{magnitude}
 use Rattle.rules.proofs.Whole.{place_on}
 use Rattle.reader.proofs.Moves.{advanced, told_at, balance_level, balance_agrees}
 use Rattle.reader.proofs.reader.Reader.take_step.Goals as goal

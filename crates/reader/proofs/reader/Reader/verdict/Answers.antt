@@ -1,4 +1,4 @@
-use Rattle.std.proofs.Common.{◌≡◌, ◌+◌, ◌-◌, ◌≤◌, min, length, sym, refl, ap, ◌∙◌, subst, arith}
+use Rattle.std.proofs.Common.{arith}
 use Rattle.reader.specs.Views.{config}
 use Rattle.reader.proofs.Acts.{ruled_at, fits_at}
 use Rattle.reader.proofs.Settings.{ended}
