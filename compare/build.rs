@@ -3,7 +3,7 @@
 //
 // MINIJINJA_SRC  the folder that holds MiniJinja's `utils.rs` and `syntax.rs`
 // FARKEZTU_LIB   the folder that holds `libboundary.a` (default: ../target/staticlib)
-// RATTLE_LIB     the folder that holds the kit's `librattle_c.a` (default: as `rt doc` tells); what
+// RATTLE_LIB     the folder that holds the kit's `liblibc_c.a` (default: as `rt doc` tells); what
 //                it defines is needed only where ours allocates
 
 use std::path::{Path, PathBuf};
@@ -177,27 +177,27 @@ fn link_ours() {
     if !library.is_file() {
         let library = library.display();
         fail(&format!(
-            "there is no {library}: run `rt staticlib boundary`, or set FARKEZTU_LIB"
+            "there is no {library}: run tools/staticlib.sh, or set FARKEZTU_LIB"
         ));
     }
     let folder = folder.canonicalize().unwrap();
     println!("cargo:rerun-if-changed={}", library.display());
     println!("cargo:rustc-link-search=native={}", folder.display());
     println!("cargo:rustc-link-lib=static=boundary");
-    if let Some(folder) = kit_library().filter(|folder| folder.join("librattle_c.a").is_file()) {
+    if let Some(folder) = kit_library().filter(|folder| folder.join("liblibc_c.a").is_file()) {
         println!("cargo:rustc-link-search=native={}", folder.display());
-        println!("cargo:rustc-link-lib=static=rattle_c");
+        println!("cargo:rustc-link-lib=static=libc_c");
     }
 }
 
-// The folder of the kit's C code: beside the folder of the guide that `rt doc` names.
+// The folder of the kit's C code: beside the guide that `rt doc` names.
 fn kit_library() -> Option<PathBuf> {
     if let Some(folder) = env::var_os("RATTLE_LIB") {
         return Some(PathBuf::from(folder));
     }
     let said = Command::new("rt").arg("doc").output().ok()?;
     let guide = String::from_utf8(said.stdout).ok()?;
-    Some(Path::new(guide.trim()).parent()?.parent()?.join("lib"))
+    Some(Path::new(guide.trim()).parent()?.join("c"))
 }
 
 // The item that begins with `start` at the start of a line, up to the brace that closes its first and

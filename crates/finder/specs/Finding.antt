@@ -10,10 +10,6 @@ pub record Opening : Type 0 where
   pub marker : StartMarker
   pub bytes : List ℕ
 
--- every opening has a byte
-abbrev pub Filled : List Opening → Type 0
-Filled os = (o : Opening) → Has os o → 0 < length o.bytes
-
 -- two lists have the same openings
 abbrev pub Same : List Opening → List Opening → Type 0
 Same os ps = (o : Opening) → (Has os o → Has ps o) × (Has ps o → Has os o)

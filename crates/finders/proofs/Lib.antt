@@ -7,4 +7,3 @@ pub mod Known
 pub mod Shifts
 pub mod Entries
 pub mod Same
-pub mod Filled

@@ -6,7 +6,7 @@ ghost use Rattle.syntax.specs.Openings.{openings_of};
 ghost use Rattle.rules.specs.At.{core_at, place_at, part_at, cut_part};
 ghost use Rattle.rules.specs.Reading.{act, balance_at, meaning, Unread};
 ghost use Rattle.rules.specs.Shapes.{Forward, Fits};
-ghost use Rattle.rules.specs.Texts.{verdict as ruled};
+ghost use Rattle.rules.specs.Texts.{verdict as ruled, AllReal};
 ghost use Rattle.rules.specs.Told.{placed, fault_span};
 ghost use Rattle.reader.specs.Views.{view_of, config, tell_by, tell, items_of, ending_of, left_of, Lawful};
 
@@ -138,6 +138,7 @@ impl<'t> Reader<'t> {
         ensures view { view_of self.new ≡ (tell (F.Finder.openings finder.now) (config self.old) (view_of self.old)).after }
         ensures settings { self.new.settings ≡ self.old.settings }
         ensures ends { (meaning (openings_of self.old.settings) (config self.old) (view_of self.old).core).stop ≢ Unread }
+        ensures real { AllReal (openings_of self.old.settings) }
         ensures lawful { Lawful self.old (F.Finder.openings finder.now) → result ≡ (tell (openings_of self.old.settings) (config self.old) (view_of self.old)).answer }
     {
         match self.told {

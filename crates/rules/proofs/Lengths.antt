@@ -1,6 +1,7 @@
 -- How many bytes the walks of the rules take at most.
 use Rattle.std.proofs.Common.{◌≡◌, ℕ, zero, suc, ◌+◌, ◌<◌, ◌≤◌, Bool, true, false, eqb, List, [], ◌∷◌, length, Some, None, Option, refl, ap, ⊎_elim, arith}
 use Rattle.std.proofs.lemmas.Bool.{cases_Bool, both_ways}
+use Rattle.std.specs.List.{ContainsAt as Has}
 use Rattle.byte_search.specs.Search.{stands_at, distance_to, further, First, Stands}
 use Rattle.byte_search.proofs.Stands.{stands_fits}
 use Rattle.byte_search.proofs.Firsts.{distance_first, stands_room}
@@ -16,7 +17,7 @@ use Rattle.rules.specs.declared.NumberState.{NumberState}
 use Rattle.rules.specs.Bytes.{run}
 use Rattle.rules.specs.Numbers.{turn, scan, Scanned, longer}
 use Rattle.rules.specs.Strings.{quote_end}
-use Rattle.rules.specs.Texts.{real_by, real}
+use Rattle.rules.specs.Texts.{real_by, real, AllReal}
 
 pub run_le : (p : ℕ → Bool) (xs : List ℕ) → run p xs ≤ length xs
 unfolding run
@@ -118,3 +119,38 @@ real_within xs (Some t) h = real_within_by xs t.2 t refl h
 
 pub found_within : (os : List Opening) (behind xs : List ℕ) → Within xs (real (found os behind xs))
 found_within os behind xs = real_within xs (found os behind xs) (found_ahead os behind xs)
+
+-- every opening has a byte
+abbrev pub Filled : List Opening → Type 0
+Filled os = (o : Opening) → Has os o → 0 < length o.bytes
+
+-- what is found has a byte
+abbrev Solid : Option Triple → Type 0
+Solid None = Unit {0}
+Solid (Some t) = 0 < t.2
+
+solid_onward : (r : Option Triple) → Solid r → Solid (onward r)
+solid_onward None h = tt
+solid_onward (Some t) h = h
+
+found_solid_by : (os : List Opening) → Filled os → (behind : List ℕ) (x : ℕ) (xs : List ℕ) (r : Option Opening) → Best os behind (x ∷ xs) r → Solid (found os (x ∷ behind) xs)
+    → Solid (elim r [ Some o ↦ Some (0, o.marker, length o.bytes) | None ↦ onward (found os (x ∷ behind) xs) ])
+found_solid_by os f behind x xs None b h = solid_onward (found os (x ∷ behind) xs) h
+found_solid_by os f behind x xs (Some o) b h = f o b.0
+
+found_solid : (os : List Opening) → Filled os → (behind xs : List ℕ) → Solid (found os behind xs)
+unfolding found
+found_solid os f behind [] = tt
+found_solid os f behind (x ∷ xs) = found_solid_by os f behind x xs (longest os behind (x ∷ xs)) (longest_best behind (x ∷ xs) os) (found_solid os f (x ∷ behind) xs)
+
+solid_real_by : (n : ℕ) (t : Triple) → t.2 ≡ n → 0 < t.2 → real_by n t ≡ Some t
+solid_real_by zero t e h = absurd (omega arith)
+solid_real_by (suc n) t e h = refl
+
+solid_real : (r : Option Triple) → Solid r → real r ≡ r
+solid_real None h = refl
+solid_real (Some t) h = solid_real_by t.2 t refl h
+
+-- where every opening has a byte no find is passed over
+pub all_real : (os : List Opening) → Filled os → AllReal os
+all_real os f behind ahead = solid_real (found os behind ahead) (found_solid os f behind ahead)

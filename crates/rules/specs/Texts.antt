@@ -1,5 +1,5 @@
 -- Reading text.
-use Rattle.std.specs.Prelude.{ℕ, zero, suc, ◌+◌, ◌-◌, Bool, true, false, ◌&&◌, List, [], ◌∷◌, length, take, drop, pos, Some, None, codes, Option, ◌==◌, slice_index}
+use Rattle.std.specs.Prelude.{◌≡◌, ℕ, zero, suc, ◌+◌, ◌-◌, Bool, true, false, ◌&&◌, List, [], ◌∷◌, length, take, drop, pos, Some, None, codes, Option, ◌==◌, slice_index}
 use Rattle.byte_search.specs.Search.{stands_at, distance_to}
 use Rattle.finder.specs.declared.StartMarker.{StartMarker}
 use Rattle.finder.specs.declared.StartMarker.TheVariants.{Variable, Block, Comment, LineStatement, LineComment}
@@ -210,6 +210,10 @@ real_by (suc n) t = Some t
 abbrev pub real : Option Triple → Option Triple
 real None = None
 real (Some t) = real_by t.2 t
+
+-- no find of these openings is passed over
+abbrev pub AllReal : List Opening → Type 0
+AllReal os = (behind ahead : List ℕ) → real (found os behind ahead) ≡ found os behind ahead
 
 -- text to the next of the openings
 unfoldable pub text : List Opening → Config → List ℕ → List ℕ → Verdict

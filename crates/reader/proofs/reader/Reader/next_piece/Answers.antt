@@ -2,7 +2,7 @@ use Rattle.std.proofs.Common.{sym, refl, ap, ◌∙◌}
 use Rattle.syntax.specs.Openings.{openings_of}
 use Rattle.rules.specs.Reading.{act}
 use Rattle.reader.specs.Views.{view_of, config, tell_by}
-use Rattle.reader.proofs.Settings.{apart}
+use Rattle.reader.proofs.Settings.{apart, none_passed}
 use Rattle.reader.proofs.Streams.{ends_told}
 use Rattle.reader.proofs.Tells.{same_tell, told_before, told_now}
 use Rattle.reader.proofs.reader.Reader.next_piece.Goals as goal
@@ -18,6 +18,7 @@ returns-in-Some g c =
       view = sym (ap (λ x. x.after) e);
       settings = refl;
       ends = ends_told r.settings r.template.now r.left r.offset r.state r.pending r.cut_told r.within r.inside r.lively;
+      real = none_passed r.settings;
       lawful = λ h. a ∙ ap (λ x. x.answer) (same_tell os (openings_of r.settings) (apart r.settings) h (config r) (view_of r));
     }
 
@@ -33,5 +34,6 @@ returns-in-None g c =
       view = c.answer.ensures.view ∙ ap (λ x. x.after) f;
       settings = c.answer.ensures.settings;
       ends = ends_told r.settings r.template.now r.left r.offset r.state r.pending r.cut_told r.within r.inside r.lively;
+      real = none_passed r.settings;
       lawful = λ h. a ∙ ap (λ x. x.answer) (same_tell os (openings_of r.settings) (apart r.settings) h (config r) (view_of r));
     }
