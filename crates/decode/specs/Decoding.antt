@@ -47,6 +47,7 @@ length_told (Refused n p) = Refused n p
 abbrev pub length_of : Unescaped → Result ℕ DecodeFault
 length_of u = elim u.ending [ Finished ↦ Ok (length (encodes u.points)) | Failed f ↦ Err f ]
 
+-- the same of any bytes, of which those that are not UTF-8 are refused first
 abbrev pub decoded_len : List ℕ → Result ℕ DecodeFault
 decoded_len xs = elim (prefix xs == length xs) [ true ↦ length_of (unescapes xs) | false ↦ Err (NotUtf8 (record { byte = prefix xs })) ]
 
