@@ -1,6 +1,6 @@
 // The decoder of escapes: a stream of characters over a text's characters.
 ghost use Rattle.std.specs.Prelude.{◌≡◌, ◌<◌, ◌≤◌, length, drop, Some, None, slice_index_or};
-ghost use Rattle.escape.specs.Escapes.{hex_from, octal_from, Gives, Bad, begins, escape as escapeOf, unicode, partner, byte_escape, passed as passedOn, unescaped};
+ghost use Rattle.escape.specs.Escapes.{hex_from, octal_from, Gives, Bad, begins, escape as escape_of, unicode, partner, byte_escape, passed as passed_on, unescaped};
 ghost use Rattle.stream.specs.Told.{Next, Falls};
 ghost use Rattle.utf8.specs.Utf8.{characters};
 ghost use Rattle.escape.specs.Characters.{closed};
@@ -32,7 +32,7 @@ enum Octal {
 
 // How a decoder ends whose characters end so.
 fn passed(e: Ending<NotUtf8>) -> Ending<DecodeFault>
-    ensures { result ≡ passedOn e }
+    ensures { result ≡ passed_on e }
 {
     match e {
         Ending::Finished => Ending::Finished,
@@ -222,7 +222,7 @@ impl<'t> Unescaper<'t> {
 
     // Reads the escape behind a backslash: what it means, or nothing where it is bad.
     fn escape(&mut self) -> Option<char>
-        ensures value { Took result (escapeOf (coming self.old)) (coming self.old) (coming self.new) }
+        ensures value { Took result (escape_of (coming self.old)) (coming self.old) (coming self.new) }
         ensures onward { Onward self.old self.new }
     {
         let Some(c) = self.peek() else {

@@ -10,10 +10,6 @@ pub record Opening : Type 0 where
   pub marker : StartMarker
   pub bytes : List ℕ
 
--- two lists have the same openings
-abbrev pub Same : List Opening → List Opening → Type 0
-Same os ps = (o : Opening) → (Has os o → Has ps o) × (Has ps o → Has os o)
-
 -- a find: how far the place is, what opens there, and how many bytes the opening has
 abbrev pub Triple : Type 0
 Triple = ℕ × StartMarker × ℕ

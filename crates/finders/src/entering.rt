@@ -4,8 +4,8 @@ ghost use Rattle.std.specs.List.{ContainsAt as Has};
 ghost use Rattle.finder.specs.Finding.{Opening, found_from};
 ghost use Rattle.syntax.specs.declared.name.DelimiterName.{DelimiterName as Name};
 ghost use Rattle.syntax.specs.Building.{is_empty};
-ghost use Rattle.syntax.specs.Drafts.{defaults as defaultDelimiters};
-ghost use Rattle.syntax.specs.Names.{opener as openerOf};
+ghost use Rattle.syntax.specs.Drafts.{defaults as default_delimiters};
+ghost use Rattle.syntax.specs.Names.{opener as opener_of};
 ghost use Rattle.syntax.specs.Openings.{setting_of, openings_of};
 ghost use Rattle.finders.specs.Defaults.{default_openings};
 ghost use Rattle.finders.specs.Meant.{openings_in, meant};
@@ -29,7 +29,7 @@ const MARKERS: [StartMarker; 5] = [
 
 // The delimiter that opens.
 fn opener(marker: StartMarker) -> DelimiterName
-    ensures { result ≡ openerOf marker }
+    ensures { result ≡ opener_of marker }
 {
     match marker {
         StartMarker::Variable => DelimiterName::VariableStart,
@@ -144,8 +144,8 @@ impl StartMarkerMatcher {
         ensures only { (o : Opening) → Has (meant result) o → Has (openings_of settings.now) o }
         ensures falling { Falling (meant result) }
         ensures same { (xs : List ℕ) (i : ℕ) → found_from (meant result) xs i ≡ found_from (openings_of settings.now) xs i }
-        ensures defaults { ((n : Name) → setting_of settings.now n ≡ defaultDelimiters n) → meant result ≡ default_openings }
-        ensures agrees { ((n : Name) → setting_of settings.now n ≡ defaultDelimiters n) → (xs : List ℕ) (i : ℕ) → found_from (meant result) xs i ≡ found_from default_openings xs i }
+        ensures defaults { ((n : Name) → setting_of settings.now n ≡ default_delimiters n) → meant result ≡ default_openings }
+        ensures agrees { ((n : Name) → setting_of settings.now n ≡ default_delimiters n) → (xs : List ℕ) (i : ℕ) → found_from (meant result) xs i ≡ found_from default_openings xs i }
     {
         let patterns = Patterns::of(settings);
         let leads = patterns.leads();

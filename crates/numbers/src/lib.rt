@@ -6,8 +6,8 @@ ghost use Rattle.std.specs.Prelude.{◌≡◌, ◌+◌, ◌^◌, ◌<◌, length
 ghost use Rattle.rules.specs.declared.NumberState.TheVariants.{RadixInteger};
 ghost use Rattle.rules.specs.declared.Pending.TheVariants.{Nothing as idle};
 ghost use Rattle.rules.specs.Bytes.{last_is};
-ghost use Rattle.rules.specs.State.{told as toldBy};
-ghost use Rattle.rules.specs.Numbers.{value_of, integer as integerOf, number_by, scan as scanAt, scanned, number as number_at};
+ghost use Rattle.rules.specs.State.{told as told_by};
+ghost use Rattle.rules.specs.Numbers.{value_of, integer as integer_of, number_by, scan as scan_at, scanned, number as number_at};
 ghost use Rattle.numbers.specs.Within.{EndsIn, Within};
 
 mod parts;
@@ -21,7 +21,7 @@ pub use values::from_str_radix;
 
 // A piece of so many bytes that are all text.
 fn token(kind: Kind, len: usize, value: Option<u64>, state: LexerState) -> Verdict
-    ensures { result ≡ toldBy kind len 0 len value state idle }
+    ensures { result ≡ told_by kind len 0 len value state idle }
 {
     Verdict::Piece(Step {
         kind,
@@ -36,7 +36,7 @@ fn token(kind: Kind, len: usize, value: Option<u64>, state: LexerState) -> Verdi
 
 // An integer of so many bytes: below 2^64 it has its value, and from 2^128 on it is bad.
 fn integer(digits: &[u8], radix: u32, len: usize, state: LexerState) -> Verdict
-    ensures { result ≡ integerOf len state (value_of radix digits.now) }
+    ensures { result ≡ integer_of len state (value_of radix digits.now) }
 {
     let Some(value) = from_str_radix(digits, radix) else {
         return Verdict::Fault(FaultKind::BadInteger, len);
@@ -82,7 +82,7 @@ fn eat_digits(
     state: LexerState,
 ) -> Verdict
     requires { prefix + length digits.now < 2 ^ 64 }
-    ensures { result ≡ scanned radix prefix state digits.now (scanAt radix after_dot start digits.now) }
+    ensures { result ≡ scanned radix prefix state digits.now (scan_at radix after_dot start digits.now) }
 {
     let (len, part) = scan(radix, after_dot, start, digits);
     let taken = until(digits, len);
@@ -95,7 +95,7 @@ fn eat_digits(
 // The number whose digits stand here, behind the two bytes that tell its base.
 fn eat_radix(digits: &[u8], radix: u32, after_dot: bool, state: LexerState) -> Verdict
     requires { 2 + length digits.now < 2 ^ 64 }
-    ensures { result ≡ scanned radix 2 state digits.now (scanAt radix after_dot RadixInteger digits.now) }
+    ensures { result ≡ scanned radix 2 state digits.now (scan_at radix after_dot RadixInteger digits.now) }
 {
     eat_digits(
         digits,

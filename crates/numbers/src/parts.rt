@@ -1,6 +1,6 @@
 // The parts of a number, and how far they reach.
 ghost use Rattle.std.specs.Prelude.{◌≡◌};
-ghost use Rattle.rules.specs.Numbers.{sign_or_digit, member_ahead, turn as turnAt, scan as scanAt};
+ghost use Rattle.rules.specs.Numbers.{sign_or_digit, member_ahead, turn as turn_at, scan as scan_at};
 ghost use Rattle.numbers.specs.Longest.{Longest};
 
 use byte_search::after;
@@ -26,7 +26,7 @@ fn member_ahead(s: &[u8]) -> bool
 
 // What the part and the next byte decide: the part from there on, or a stop.
 fn turn(radix: u32, after_dot: bool, state: NumberState, c: u8, rest: &[u8]) -> Option<NumberState>
-    ensures { result ≡ turnAt radix after_dot state c rest.now }
+    ensures { result ≡ turn_at radix after_dot state c rest.now }
 {
     match (state, c) {
         (NumberState::RadixInteger, b'a'..=b'f' | b'A'..=b'F') if radix == 16 => Some(state),
@@ -48,7 +48,7 @@ fn turn(radix: u32, after_dot: bool, state: NumberState, c: u8, rest: &[u8]) -> 
 
 // How many bytes a number has from a part on, and the part in which it stops.
 pub fn scan(radix: u32, after_dot: bool, start: NumberState, rest: &[u8]) -> (usize, NumberState)
-    ensures value { result ≡ scanAt radix after_dot start rest.now }
+    ensures value { result ≡ scan_at radix after_dot start rest.now }
     ensures longest { Longest radix after_dot start rest.now result.0 result.1 }
 {
     let mut state = start;

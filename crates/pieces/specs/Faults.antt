@@ -1,7 +1,7 @@
 -- The numbers and names of reading faults.
 use Rattle.std.specs.Prelude.{ℕ, List, Some, None, codes, Option}
 use Rattle.escape.specs.Faults.{place_of, name_of}
-use Rattle.escape.specs.Faults.{number_of as decodeNumber}
+use Rattle.escape.specs.Faults.{number_of as decode_number}
 use Rattle.pieces.specs.declared.fault.FaultKind.{FaultKind}
 use Rattle.pieces.specs.declared.fault.FaultKind.TheVariants.{UnendedComment, UnendedRaw, UnendedString, NoToken, TrailingUnderscore, NoExponent, BadInteger, AfterExpression, Escape}
 
@@ -16,7 +16,7 @@ number_of TrailingUnderscore = 11
 number_of NoExponent = 12
 number_of BadInteger = 13
 number_of AfterExpression = 14
-number_of (Escape f) = decodeNumber f
+number_of (Escape f) = decode_number f
 
 -- the name that goes with it
 abbrev pub fault_name : FaultKind → List ℕ

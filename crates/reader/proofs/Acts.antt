@@ -8,7 +8,7 @@ use Rattle.stream.specs.declared.answer.Ending.TheVariants.{Finished, Failed}
 use Rattle.places.specs.Places.{beyond}
 use Rattle.pieces.specs.declared.fault.FaultKind.{FaultKind}
 use Rattle.pieces.specs.declared.fault.ReadFault.{ReadFault}
-use Rattle.pieces.specs.declared.piece.Piece.{Piece as Told-piece}
+use Rattle.pieces.specs.declared.piece.Piece.{Piece as ToldPiece}
 use Rattle.rules.specs.declared.LexerState.{LexerState}
 use Rattle.rules.specs.declared.Pending.{Pending}
 use Rattle.rules.specs.declared.Step.{Step}
@@ -29,7 +29,7 @@ module _ (t : List ℕ) (n i : ℕ) (m : LexerState) (w : Pending) (e : Bool) (b
   abbrev pub view_at : View
   view_at = record { core = core_at t n i m w e; place = place_at t i; balance = b; told = o }
 
-  pub piece_answer : (s : Step) (r : Told-piece) → i + s.len ≤ n → r ≡ placed (place_at t i) (part_at t i s) → Item r ≡ (tell_by view_at (act (core_at t n i m w e) (Piece s))).answer
+  pub piece_answer : (s : Step) (r : ToldPiece) → i + s.len ≤ n → r ≡ placed (place_at t i) (part_at t i s) → Item r ≡ (tell_by view_at (act (core_at t n i m w e) (Piece s))).answer
   piece_answer s r h q = ap Item q ∙ sym (ap (λ x. (tell_by view_at x).answer) (act_piece t n i m w e s h))
 
   pub piece_after : (s : Step) (v : View) → i + s.len ≤ n → o ≡ None
@@ -41,7 +41,7 @@ module _ (t : List ℕ) (n i : ℕ) (m : LexerState) (w : Pending) (e : Bool) (b
       ∙ ap (λ x. record { core = core_at t n (i + s.len) s.state s.pending e; place = x; balance = balance_at b s.state; told = None }) (sym (place_on t i s.len))
       ∙ sym (ap (λ x. (tell_by view_at x).after) (act_piece t n i m w e s h))
 
-  pub cut_answer : (r : Told-piece) → i ≡ n → n < length t → r ≡ placed (place_at t i) (cut_part t n) → Item r ≡ (tell_by view_at (act (core_at t n i m w e) End)).answer
+  pub cut_answer : (r : ToldPiece) → i ≡ n → n < length t → r ≡ placed (place_at t i) (cut_part t n) → Item r ≡ (tell_by view_at (act (core_at t n i m w e) End)).answer
   cut_answer r h k q = ap Item q ∙ sym (ap (λ x. (tell_by view_at x).answer) (act_cut t n i m w e h k))
 
   pub cut_after : (v : View) → i ≡ n → n < length t → o ≡ None → balance_at b m ≡ b

@@ -1,6 +1,6 @@
 -- A reader is a stream.
 use Rattle.std.proofs.Common.{◌≡◌, ℕ, ◌+◌, ◌<◌, ◌≤◌, Bool, List, length, sym, ap, ◌∙◌, subst}
-use Rattle.finder.specs.Finding.{Opening, Same}
+use Rattle.finder.specs.Finding.{Opening}
 use Rattle.stream.specs.declared.answer.Answer.{Answer}
 use Rattle.stream.specs.declared.answer.Ending.{Ending}
 use Rattle.stream.specs.Told.{Next, Falls}
@@ -14,6 +14,7 @@ use Rattle.rules.specs.declared.Pending.{Pending}
 use Rattle.rules.specs.At.{core_at}
 use Rattle.rules.specs.Reading.{Unread, meaning}
 use Rattle.rules.specs.Shapes.{held, least}
+use Rattle.rules.specs.Texts.{Same}
 use Rattle.rules.proofs.Fuel.{FineAt, meaning_ends}
 use Rattle.rules.proofs.Whole.{fine_at}
 use Rattle.reader.specs.Views.{View, tell, items_of, ending_of, left_of}

@@ -1,6 +1,6 @@
 -- What a call tells is the first of what a reader means.
 use Rattle.std.proofs.Common.{◌≡◌, suc, List, [], ◌∷◌, Some, None, Option, sym, refl, ap, ◌∙◌, subst, arith}
-use Rattle.finder.specs.Finding.{Opening, Same}
+use Rattle.finder.specs.Finding.{Opening}
 use Rattle.stream.specs.declared.answer.Answer.TheVariants.{End}
 use Rattle.stream.specs.declared.answer.Ending.{Ending}
 use Rattle.stream.specs.Told.{Next, Falls}
@@ -10,6 +10,7 @@ use Rattle.pieces.specs.declared.fault.ReadFault.{ReadFault}
 use Rattle.rules.specs.Config.{Config, Ended}
 use Rattle.rules.specs.Reading.{Part, Stop, Call, Gives, Stops, act, call, Parts, first, only, go_on, measure, meaning}
 use Rattle.rules.specs.Told.{placed, pieces, behind, ended, ending}
+use Rattle.rules.specs.Texts.{Same}
 use Rattle.rules.proofs.Fuel.{FineAt, Steps, call_steps, meaning_step}
 use Rattle.rules.proofs.Lawful.{Apart, same_verdict}
 use Rattle.reader.specs.Views.{View, Told, tell_by, tell, items_of, ending_of, left_of}

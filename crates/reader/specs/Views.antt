@@ -1,6 +1,6 @@
 -- What a reader is to the rules, and what its calls tell.
 use Rattle.std.specs.Prelude.{ℕ, suc, List, [], ℤ, pos, Some, None, Option}
-use Rattle.finder.specs.Finding.{Opening, Same}
+use Rattle.finder.specs.Finding.{Opening}
 use Rattle.stream.specs.declared.answer.Answer.{Answer}
 use Rattle.stream.specs.declared.answer.Answer.TheVariants.{Item, End}
 use Rattle.stream.specs.declared.answer.Ending.{Ending}
@@ -15,6 +15,7 @@ use Rattle.rules.specs.At.{core_at, place_at}
 use Rattle.rules.specs.Reading.{Call, Gives, Stops, call, measure, meaning, starting, balance_at}
 use Rattle.rules.specs.State.{Core}
 use Rattle.rules.specs.Told.{placed, pieces, ended, ending}
+use Rattle.rules.specs.Texts.{Same}
 use Rattle.reader.specs.declared.reader.Reader.{Reader}
 
 -- the state of the reading; the place that it reached, without a cap; the balance of brackets; and the ending, once it was told

@@ -1,7 +1,7 @@
 // Reading.
 ghost use Rattle.std.specs.Prelude.{◌≡◌, ◌+◌, ◌-◌, ◌<◌, ◌≤◌, true, length, Some as already, None as untold, ◌≢◌};
 ghost use Rattle.stream.specs.Told.{Next, Falls};
-ghost use Rattle.stream.specs.declared.answer.Answer.TheVariants.{End as told-end};
+ghost use Rattle.stream.specs.declared.answer.Answer.TheVariants.{End as told_end};
 ghost use Rattle.syntax.specs.Openings.{openings_of};
 ghost use Rattle.rules.specs.At.{core_at, place_at, part_at, cut_part};
 ghost use Rattle.rules.specs.Reading.{act, balance_at, meaning, Unread};
@@ -72,7 +72,7 @@ impl<'t> Reader<'t> {
 
     // Tells an ending, which is kept.
     fn end(&mut self, ending: Ending<ReadFault>) -> Answer<Piece, Ending<ReadFault>>
-        ensures value { result ≡ told-end ending }
+        ensures value { result ≡ told_end ending }
         ensures view { view_of self.new ≡ record { core = (view_of self.old).core; place = (view_of self.old).place; balance = self.old.balance; told = already ending } }
         ensures settings { self.new.settings ≡ self.old.settings }
     {

@@ -1,6 +1,6 @@
 // Tokens that borrow from the template.
 ghost use Rattle.std.specs.Prelude.{◌≡◌, ◌≤◌, true, false, length, Ok, Err};
-ghost use Rattle.records.specs.declared.fault.RecordFault.TheVariants.{BadRange as badRange};
+ghost use Rattle.records.specs.declared.fault.RecordFault.TheVariants.{BadRange as bad_range};
 ghost use Rattle.records.specs.Taken.{is_good, Good};
 ghost use Rattle.records.specs.Tokens.{shown, token_of, part as between, record_token};
 
@@ -75,7 +75,7 @@ fn part(s: &[u8], start: u32, end: u32) -> &[u8]
 impl<'t> Token<'t> {
     // The token of a record of a template; refused where a range of the record is bad.
     pub fn new(template: &'t [u8], piece: Piece) -> Result<Token<'t>, RecordFault>
-        ensures value { elim result [ Ok t ↦ (is_good (length template.now) piece ≡ true) × (shown t ≡ record_token template.now piece) | Err f ↦ (is_good (length template.now) piece ≡ false) × (f ≡ badRange) ] }
+        ensures value { elim result [ Ok t ↦ (is_good (length template.now) piece ≡ true) × (shown t ≡ record_token template.now piece) | Err f ↦ (is_good (length template.now) piece ≡ false) × (f ≡ bad_range) ] }
         ensures words { elim result [ Ok t ↦ Good (length template.now) piece | Err f ↦ (Good (length template.now) piece → ⊥) ] }
     {
         if !is_good(template.len(), piece) {

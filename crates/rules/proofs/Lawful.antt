@@ -5,14 +5,14 @@ use Rattle.std.proofs.lemmas.Bool.{cases_lt}
 use Rattle.std.specs.List.{ContainsAt as Has}
 use Rattle.byte_search.specs.Search.{stands_at}
 use Rattle.byte_search.proofs.Stands.{stands_split}
-use Rattle.finder.specs.Finding.{Opening, Same, found, longest, further}
+use Rattle.finder.specs.Finding.{Opening, found, longest, further}
 use Rattle.finder.proofs.Longest.{Best, longest_best}
 use Rattle.rules.specs.declared.LexerState.{LexerState}
 use Rattle.rules.specs.declared.LexerState.TheVariants.{Template, Inside, Over}
 use Rattle.rules.specs.declared.Pending.{Pending}
 use Rattle.rules.specs.declared.Pending.TheVariants.{Nothing, Trim, Tail, Marker, RawBody, RawClose}
 use Rattle.rules.specs.Config.{Config, white}
-use Rattle.rules.specs.Texts.{met, real, text, trimmed, text_verdict, verdict_by}
+use Rattle.rules.specs.Texts.{Same, met, real, text, trimmed, text_verdict, verdict_by}
 use Rattle.spaces.specs.Runs.{white_run}
 use Rattle.rules.proofs.Lengths.{stands_of}
 

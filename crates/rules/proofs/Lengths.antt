@@ -80,77 +80,59 @@ scan_le base dotted p (x ∷ xs) =
       | Some q ↦ omega (arith, scan_le base dotted q xs)
     ]
 
--- what is found lies ahead
-abbrev pub Ahead : List ℕ → Option Triple → Type 0
-Ahead xs None = Unit {0}
-Ahead xs (Some t) = (t.0 + t.2 ≤ length xs) × (t.0 < length xs)
+-- every opening has a byte
+abbrev pub Filled : List Opening → Type 0
+Filled os = (o : Opening) → Has os o → 0 < length o.bytes
+
+-- what is found of openings lies ahead, and has a byte where they do
+abbrev Ahead : List Opening → List ℕ → Option Triple → Type 0
+Ahead os xs None = Unit {0}
+Ahead os xs (Some t) = (t.0 + t.2 ≤ length xs) × (t.0 < length xs) × (Filled os → 0 < t.2)
 
 -- what is found has a byte and lies ahead
 abbrev pub Within : List ℕ → Option Triple → Type 0
 Within xs None = Unit {0}
 Within xs (Some t) = (0 < t.2) × (t.0 + t.2 ≤ length xs) × (t.0 < length xs)
 
-onward_ahead : (x : ℕ) (xs : List ℕ) (r : Option Triple) → Ahead xs r → Ahead (x ∷ xs) (onward r)
-onward_ahead x xs None h = tt
-onward_ahead x xs (Some t) h = (omega (arith, h.0), omega (arith, h.1))
+onward_ahead : (os : List Opening) (x : ℕ) (xs : List ℕ) (r : Option Triple) → Ahead os xs r → Ahead os (x ∷ xs) (onward r)
+onward_ahead os x xs None h = tt
+onward_ahead os x xs (Some t) h = (omega (arith, h.0), omega (arith, h.1), h.2)
 
 pub stands_of : (o : Opening) (behind xs : List ℕ) → qualifies o behind xs ≡ true → stands_at o.bytes xs ≡ true
 stands_of o behind xs e = ⊎_elim (λ h. h) (λ h. absurd (both_ways (qualifies o behind xs) (ap (λ t. elim t [ true ↦ fitting o.marker behind | false ↦ false ]) h) e)) (cases_Bool (stands_at o.bytes xs))
 
-found_ahead_by : (os : List Opening) (behind : List ℕ) (x : ℕ) (xs : List ℕ) (r : Option Opening) → Best os behind (x ∷ xs) r → Ahead xs (found os (x ∷ behind) xs)
-    → Ahead (x ∷ xs) (elim r [ Some o ↦ Some (0, o.marker, length o.bytes) | None ↦ onward (found os (x ∷ behind) xs) ])
-found_ahead_by os behind x xs None b h = onward_ahead x xs (found os (x ∷ behind) xs) h
+found_ahead_by : (os : List Opening) (behind : List ℕ) (x : ℕ) (xs : List ℕ) (r : Option Opening) → Best os behind (x ∷ xs) r → Ahead os xs (found os (x ∷ behind) xs)
+    → Ahead os (x ∷ xs) (elim r [ Some o ↦ Some (0, o.marker, length o.bytes) | None ↦ onward (found os (x ∷ behind) xs) ])
+found_ahead_by os behind x xs None b h = onward_ahead os x xs (found os (x ∷ behind) xs) h
 found_ahead_by os behind x xs (Some o) b h =
     let l : length o.bytes ≤ length (x ∷ xs) = stands_fits o.bytes (x ∷ xs) (stands_of o behind (x ∷ xs) b.1) in
-    (omega arith, omega arith)
+    (omega arith, omega arith, λ f. f o b.0)
 
-found_ahead : (os : List Opening) (behind xs : List ℕ) → Ahead xs (found os behind xs)
+found_ahead : (os : List Opening) (behind xs : List ℕ) → Ahead os xs (found os behind xs)
 unfolding found
 found_ahead os behind [] = tt
 found_ahead os behind (x ∷ xs) = found_ahead_by os behind x xs (longest os behind (x ∷ xs)) (longest_best behind (x ∷ xs) os) (found_ahead os (x ∷ behind) xs)
 
-real_within_by : (xs : List ℕ) (n : ℕ) (t : Triple) → t.2 ≡ n → (t.0 + t.2 ≤ length xs) × (t.0 < length xs) → Within xs (real_by n t)
-real_within_by xs zero t e h = tt
-real_within_by xs (suc n) t e h = (omega arith, h.0, h.1)
+real_within_by : (xs : List ℕ) (n : ℕ) (t : Triple) → t.2 ≡ n → t.0 + t.2 ≤ length xs → t.0 < length xs → Within xs (real_by n t)
+real_within_by xs zero t e h l = tt
+real_within_by xs (suc n) t e h l = (omega arith, h, l)
 
-real_within : (xs : List ℕ) (r : Option Triple) → Ahead xs r → Within xs (real r)
-real_within xs None h = tt
-real_within xs (Some t) h = real_within_by xs t.2 t refl h
+real_within : (os : List Opening) (xs : List ℕ) (r : Option Triple) → Ahead os xs r → Within xs (real r)
+real_within os xs None h = tt
+real_within os xs (Some t) h = real_within_by xs t.2 t refl h.0 h.1
 
+-- what is taken for a find has a byte and lies ahead
 pub found_within : (os : List Opening) (behind xs : List ℕ) → Within xs (real (found os behind xs))
-found_within os behind xs = real_within xs (found os behind xs) (found_ahead os behind xs)
+found_within os behind xs = real_within os xs (found os behind xs) (found_ahead os behind xs)
 
--- every opening has a byte
-abbrev pub Filled : List Opening → Type 0
-Filled os = (o : Opening) → Has os o → 0 < length o.bytes
+real_same_by : (n : ℕ) (t : Triple) → t.2 ≡ n → 0 < t.2 → real_by n t ≡ Some t
+real_same_by zero t e h = absurd (omega arith)
+real_same_by (suc n) t e h = refl
 
--- what is found has a byte
-abbrev Solid : Option Triple → Type 0
-Solid None = Unit {0}
-Solid (Some t) = 0 < t.2
-
-solid_onward : (r : Option Triple) → Solid r → Solid (onward r)
-solid_onward None h = tt
-solid_onward (Some t) h = h
-
-found_solid_by : (os : List Opening) → Filled os → (behind : List ℕ) (x : ℕ) (xs : List ℕ) (r : Option Opening) → Best os behind (x ∷ xs) r → Solid (found os (x ∷ behind) xs)
-    → Solid (elim r [ Some o ↦ Some (0, o.marker, length o.bytes) | None ↦ onward (found os (x ∷ behind) xs) ])
-found_solid_by os f behind x xs None b h = solid_onward (found os (x ∷ behind) xs) h
-found_solid_by os f behind x xs (Some o) b h = f o b.0
-
-found_solid : (os : List Opening) → Filled os → (behind xs : List ℕ) → Solid (found os behind xs)
-unfolding found
-found_solid os f behind [] = tt
-found_solid os f behind (x ∷ xs) = found_solid_by os f behind x xs (longest os behind (x ∷ xs)) (longest_best behind (x ∷ xs) os) (found_solid os f (x ∷ behind) xs)
-
-solid_real_by : (n : ℕ) (t : Triple) → t.2 ≡ n → 0 < t.2 → real_by n t ≡ Some t
-solid_real_by zero t e h = absurd (omega arith)
-solid_real_by (suc n) t e h = refl
-
-solid_real : (r : Option Triple) → Solid r → real r ≡ r
-solid_real None h = refl
-solid_real (Some t) h = solid_real_by t.2 t refl h
+real_same : (os : List Opening) → Filled os → (xs : List ℕ) (r : Option Triple) → Ahead os xs r → real r ≡ r
+real_same os f xs None h = refl
+real_same os f xs (Some t) h = real_same_by t.2 t refl (h.2 f)
 
 -- where every opening has a byte no find is passed over
 pub all_real : (os : List Opening) → Filled os → AllReal os
-all_real os f behind ahead = solid_real (found os behind ahead) (found_solid os f behind ahead)
+all_real os f behind ahead = real_same os f ahead (found os behind ahead) (found_ahead os behind ahead)

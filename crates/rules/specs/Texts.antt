@@ -1,5 +1,6 @@
 -- Reading text.
 use Rattle.std.specs.Prelude.{◌≡◌, ℕ, zero, suc, ◌+◌, ◌-◌, Bool, true, false, ◌&&◌, List, [], ◌∷◌, length, take, drop, pos, Some, None, codes, Option, ◌==◌, slice_index}
+use Rattle.std.specs.List.{ContainsAt as Has}
 use Rattle.byte_search.specs.Search.{stands_at, distance_to}
 use Rattle.finder.specs.declared.StartMarker.{StartMarker}
 use Rattle.finder.specs.declared.StartMarker.TheVariants.{Variable, Block, Comment, LineStatement, LineComment}
@@ -210,6 +211,10 @@ real_by (suc n) t = Some t
 abbrev pub real : Option Triple → Option Triple
 real None = None
 real (Some t) = real_by t.2 t
+
+-- two lists have the same openings
+abbrev pub Same : List Opening → List Opening → Type 0
+Same os ps = (o : Opening) → (Has os o → Has ps o) × (Has ps o → Has os o)
 
 -- no find of these openings is passed over
 abbrev pub AllReal : List Opening → Type 0

@@ -5,7 +5,7 @@
 ghost use Rattle.std.specs.Prelude.{◌≡◌, ℕ, ◌≤◌, Bool, true, take, None, Decides};
 ghost use Rattle.std.specs.Char.{is_whitespace};
 ghost use Rattle.ranged.specs.Ranges.{first_too_early, Rising};
-ghost use Rattle.spaces.specs.Spaces.{white_space, begins, ends, in_ranges, in_line, Held, holds as rangeHolds};
+ghost use Rattle.spaces.specs.Spaces.{white_space, begins, ends, in_ranges, in_line, Held, holds as range_holds};
 ghost use Rattle.spaces.specs.Runs.{white_run, white_tail, Longest, LongestTail, Ends, Reaches};
 ghost use Rattle.spaces.specs.Lines.{is_blank, blank_run, line_end, LongestBlank, LineEnd};
 
@@ -23,7 +23,7 @@ pub struct CodeRange {
 impl CodeRange {
     // Whether the range holds `c`.
     pub fn holds(&self, c: char) -> bool
-        ensures { result ≡ rangeHolds self.now c }
+        ensures { result ≡ range_holds self.now c }
     {
         self.first <= u32::from(c) && u32::from(c) <= self.last
     }

@@ -1,7 +1,7 @@
 // The ends of tags.
 ghost use Rattle.std.specs.Prelude.{◌≡◌, ℕ, List, ◌∷◌, drop, Some as just, None as nothing};
 ghost use Rattle.rules.specs.Config.{config_of};
-ghost use Rattle.rules.specs.Tags.{end_of, trim_by, closing as closingAt, closes as closes_at, is_zero, close as closeAt, line_rest, statement_end};
+ghost use Rattle.rules.specs.Tags.{end_of, trim_by, closing as closing_at, closes as closes_at, is_zero, close as close_at, line_rest, statement_end};
 ghost use Rattle.spaces.specs.Runs.{white_run};
 ghost use Rattle.spaces.specs.Spaces.{white_space, in_line};
 ghost use Rattle.tags.specs.Ends.{signed_end};
@@ -44,7 +44,7 @@ fn closing(
     len: usize,
     rest: &[u8],
 ) -> Verdict
-    ensures { result ≡ closingAt (config_of settings.now) sentinel ws len rest.now }
+    ensures { result ≡ closing_at (config_of settings.now) sentinel ws len rest.now }
 {
     match sentinel {
         BlockSentinel::Variable => {
@@ -102,7 +102,7 @@ pub fn close(
     balance: i64,
     rest: &[u8],
 ) -> Option<Verdict>
-    ensures { (x : ℕ) (xs : List ℕ) → rest.now ≡ x ∷ xs → result ≡ closeAt (config_of settings.now) sentinel balance x xs }
+    ensures { (x : ℕ) (xs : List ℕ) → rest.now ≡ x ∷ xs → result ≡ close_at (config_of settings.now) sentinel balance x xs }
 {
     if !is_balanced(balance) {
         return None;

@@ -3,7 +3,7 @@ ghost use Rattle.std.specs.Prelude.{◌≡◌, ℕ, ◌≤◌, List, [], ◌∷�
 ghost use Rattle.spaces.specs.Lines.{blank_run};
 ghost use Rattle.rules.specs.Bytes.{pushes, behind_at};
 ghost use Rattle.rules.specs.Config.{config_of};
-ghost use Rattle.rules.specs.Tags.{dot_behind, inside as insideAt, blanks as blanksAt, tag_end, tag_verdict};
+ghost use Rattle.rules.specs.Tags.{dot_behind, inside as inside_at, blanks as blanks_at, tag_end, tag_verdict};
 ghost use Rattle.tags.specs.Balances.{Moderate};
 
 use super::ends::{close, statement_end};
@@ -34,7 +34,7 @@ fn inside(
     rest: &[u8],
 ) -> Verdict
     requires { Moderate balance }
-    ensures { (behind : List ℕ) (x : ℕ) (xs : List ℕ) → dot_behind behind ≡ after_dot → rest.now ≡ x ∷ xs → result ≡ insideAt (config_of settings.now) behind sentinel balance x xs }
+    ensures { (behind : List ℕ) (x : ℕ) (xs : List ℕ) → dot_behind behind ≡ after_dot → rest.now ≡ x ∷ xs → result ≡ inside_at (config_of settings.now) behind sentinel balance x xs }
 {
     match close(settings, sentinel, balance, rest) {
         Some(verdict) => verdict,
@@ -51,7 +51,7 @@ fn blanks(
     rest: &[u8],
 ) -> Verdict
     requires { Moderate balance }
-    ensures { (behind : List ℕ) (x : ℕ) (xs : List ℕ) → dot_behind behind ≡ after_dot → rest.now ≡ x ∷ xs → result ≡ blanksAt (config_of settings.now) behind sentinel balance x xs (blank_run (x ∷ xs)) }
+    ensures { (behind : List ℕ) (x : ℕ) (xs : List ℕ) → dot_behind behind ≡ after_dot → rest.now ≡ x ∷ xs → result ≡ blanks_at (config_of settings.now) behind sentinel balance x xs (blank_run (x ∷ xs)) }
 {
     match blank_run(rest) {
         0 => inside(settings, after_dot, sentinel, balance, rest),

@@ -5,7 +5,7 @@ ghost use Rattle.pieces.specs.Kinds.{operator_text};
 ghost use Rattle.rules.specs.declared.LexerState.TheVariants.{Inside as inside};
 ghost use Rattle.rules.specs.declared.Pending.TheVariants.{Nothing as idle};
 ghost use Rattle.rules.specs.State.{plain as plain_of};
-ghost use Rattle.rules.specs.Tags.{dot_behind, literal as literalAt, token as tokenAt, weight as weightOf};
+ghost use Rattle.rules.specs.Tags.{dot_behind, literal as literal_at, token as token_at, weight as weight_of};
 ghost use Rattle.tags.specs.Balances.{Moderate};
 ghost use Rattle.tags.specs.Names.{named};
 
@@ -27,7 +27,7 @@ fn eat_identifier(rest: &[u8], state: LexerState) -> Verdict
 
 // A string, a number or an identifier; else no token begins here.
 fn literal(after_dot: bool, state: LexerState, rest: &[u8]) -> Verdict
-    ensures { (behind : List ℕ) (x : ℕ) (xs : List ℕ) → dot_behind behind ≡ after_dot → rest.now ≡ x ∷ xs → result ≡ literalAt behind state x xs }
+    ensures { (behind : List ℕ) (x : ℕ) (xs : List ℕ) → dot_behind behind ≡ after_dot → rest.now ≡ x ∷ xs → result ≡ literal_at behind state x xs }
 {
     match rest {
         [quote @ (b'"' | b'\''), text @ ..] => eat_string(*quote, text, state),
@@ -39,7 +39,7 @@ fn literal(after_dot: bool, state: LexerState, rest: &[u8]) -> Verdict
 // An operator, which a bracket adds to the balance.
 fn operated(operator: Operator, sentinel: BlockSentinel, balance: i64) -> Verdict
     requires { Moderate balance }
-    ensures { result ≡ plain_of (operates operator) (length (operator_text operator)) (inside sentinel (balance +ℤ weightOf operator)) idle }
+    ensures { result ≡ plain_of (operates operator) (length (operator_text operator)) (inside sentinel (balance +ℤ weight_of operator)) idle }
 {
     let state = LexerState::Inside(sentinel, balance + weight(operator));
     let len = operator.text().len();
@@ -49,7 +49,7 @@ fn operated(operator: Operator, sentinel: BlockSentinel, balance: i64) -> Verdic
 // An operator, else a literal.
 pub fn token(after_dot: bool, sentinel: BlockSentinel, balance: i64, rest: &[u8]) -> Verdict
     requires { Moderate balance }
-    ensures { (behind : List ℕ) (x : ℕ) (xs : List ℕ) → dot_behind behind ≡ after_dot → rest.now ≡ x ∷ xs → result ≡ tokenAt behind sentinel balance x xs }
+    ensures { (behind : List ℕ) (x : ℕ) (xs : List ℕ) → dot_behind behind ≡ after_dot → rest.now ≡ x ∷ xs → result ≡ token_at behind sentinel balance x xs }
 {
     match operator(rest) {
         Some(operator) => operated(operator, sentinel, balance),

@@ -5,8 +5,11 @@
 ghost use Rattle.std.specs.Prelude.{◌≡◌, ◌+◌, ◌-◌, ◌≤◌, length, drop, Some};
 ghost use Rattle.rules.specs.Bytes.{in_line, run, sign_len, behind_at, LongestRun};
 ghost use Rattle.rules.specs.Config.{config_of};
+ghost use Rattle.pieces.specs.declared.kind.Kind.TheVariants.{Text};
+ghost use Rattle.rules.specs.declared.LexerState.TheVariants.{Template};
+ghost use Rattle.rules.specs.declared.Pending.TheVariants.{Nothing};
 ghost use Rattle.rules.specs.State.{plain as plainly};
-ghost use Rattle.rules.specs.Texts.{closing_sign, comment as commentTold, line_comment_here, raw_name, basic_tag, block_by, opened, gap_then, lead_then, opening_sign, met, real, text as textTold, trimmed as trimmedTold, text_verdict};
+ghost use Rattle.rules.specs.Texts.{closing_sign, comment as comment_told, line_comment_here, raw_name, basic_tag, block_by, opened, gap_then, lead_then, opening_sign, met, real, text as text_told, trimmed as trimmed_told, text_verdict};
 ghost use Rattle.texts.specs.Gaps.{CommentEnds, LineEnds};
 ghost use Rattle.raws.specs.Waiting.{Inside};
 ghost use Rattle.rules.specs.Shapes.{held};
@@ -37,21 +40,21 @@ fn plain(kind: Kind, len: usize, state: LexerState, pending: Pending) -> Verdict
 }
 
 // The sign that ends a comment's body of so many bytes.
-fn closing_sign(body: &[u8], len: usize) -> Whitespace
-    requires { len ≤ length body.now }
-    ensures { result ≡ closing_sign len body.now }
+fn closing_sign(body: &[u8], end: usize) -> Whitespace
+    requires { end ≤ length body.now }
+    ensures { result ≡ closing_sign end body.now }
 {
-    if len == 0 {
+    if end == 0 {
         Whitespace::Default
     } else {
-        from_byte(body[len - 1])
+        from_byte(body[end - 1])
     }
 }
 
 // A comment, whose opening and sign have so many bytes: it runs to its first end behind them.
 pub fn comment(settings: &Settings, skip: usize, rest: &[u8]) -> Verdict
     requires { skip ≤ length rest.now }
-    ensures value { result ≡ commentTold (config_of settings.now) skip rest.now }
+    ensures value { result ≡ comment_told (config_of settings.now) skip rest.now }
     ensures ends { CommentEnds (config_of settings.now).comment_end skip rest.now result }
     ensures inside { Inside (length rest.now) result }
 {
@@ -207,6 +210,19 @@ fn opening_sign(marker: StartMarker, rest: &[u8]) -> Whitespace
     }
 }
 
+// All that is left is text.
+fn all_text(rest: &[u8]) -> Verdict
+    ensures value { result ≡ plainly Text (length rest.now) Template Nothing }
+    ensures inside { Inside (length rest.now) result }
+{
+    plain(
+        Kind::Text,
+        rest.len(),
+        LexerState::Template,
+        Pending::Nothing,
+    )
+}
+
 // Text to an opening of so many bytes that was found so far ahead; one of no bytes opens nothing, and all that is left is text.
 fn meet(
     settings: &Settings,
@@ -222,12 +238,7 @@ fn meet(
 {
     let rest = after(source, offset);
     if len == 0 {
-        return plain(
-            Kind::Text,
-            rest.len(),
-            LexerState::Template,
-            Pending::Nothing,
-        );
+        return all_text(rest);
     }
     let ws = opening_sign(marker, after(rest, distance + len));
     let text = lead(settings, marker, ws, source, offset, distance);
@@ -237,7 +248,7 @@ fn meet(
 // Text to the next opening; with none it is all that is left.
 fn text<F: Finder>(settings: &Settings, finder: &F, source: &[u8], offset: usize) -> Verdict
     requires { offset ≤ length source.now }
-    ensures value { result ≡ textTold (F.Finder.openings finder.now) (config_of settings.now) (behind_at source.now offset) (drop offset source.now) }
+    ensures value { result ≡ text_told (F.Finder.openings finder.now) (config_of settings.now) (behind_at source.now offset) (drop offset source.now) }
     ensures inside { Inside (length source.now - offset) result }
 {
     let rest = after(source, offset);
@@ -245,12 +256,7 @@ fn text<F: Finder>(settings: &Settings, finder: &F, source: &[u8], offset: usize
         return Verdict::End;
     }
     let Some((distance, marker, len)) = finder.find(source, offset) else {
-        return plain(
-            Kind::Text,
-            rest.len(),
-            LexerState::Template,
-            Pending::Nothing,
-        );
+        return all_text(rest);
     };
     meet(settings, source, offset, distance, marker, len)
 }
@@ -264,7 +270,7 @@ fn trimmed<F: Finder>(
     white: usize,
 ) -> Verdict
     requires { offset + white ≤ length source.now }
-    ensures value { result ≡ trimmedTold (F.Finder.openings finder.now) (config_of settings.now) (behind_at source.now offset) (drop offset source.now) white }
+    ensures value { result ≡ trimmed_told (F.Finder.openings finder.now) (config_of settings.now) (behind_at source.now offset) (drop offset source.now) white }
     ensures inside { Inside (length source.now - offset) result }
 {
     match white {

@@ -1,6 +1,6 @@
 // Operators and brackets.
 ghost use Rattle.std.specs.Prelude.{◌≡◌, ℕ, List, ◌∷◌, pos, negsuc, ◌≤ℤ◌};
-ghost use Rattle.rules.specs.Tags.{operators as allOperators, first_standing, weight as weightOf};
+ghost use Rattle.rules.specs.Tags.{operators as all_operators, first_standing, weight as weight_of};
 ghost use Rattle.words.specs.Operators.{singles, FirstOperator};
 
 use pieces::Operator;
@@ -35,7 +35,7 @@ fn single(b: u8) -> Option<Operator>
 
 // The operator at the front, if any: those of two bytes come first.
 pub fn operator(rest: &[u8]) -> Option<Operator>
-    ensures value { result ≡ first_standing allOperators rest.now }
+    ensures value { result ≡ first_standing all_operators rest.now }
     ensures first { FirstOperator rest.now result }
 {
     match rest {
@@ -52,7 +52,7 @@ pub fn operator(rest: &[u8]) -> Option<Operator>
 
 // What an operator adds to the balance of brackets: an opener 1, a closer takes 1.
 pub fn weight(operator: Operator) -> i64
-    ensures value { result ≡ weightOf operator }
+    ensures value { result ≡ weight_of operator }
     ensures within { (negsuc 0 ≤ℤ result) × (result ≤ℤ pos 1) }
 {
     match operator {

@@ -1,9 +1,9 @@
 // Strings.
 ghost use Rattle.std.specs.Prelude.{◌≡◌, ◌+◌, false, length};
 ghost use Rattle.rules.specs.declared.Pending.TheVariants.{Nothing as idle};
-ghost use Rattle.rules.specs.State.{told as toldOf};
+ghost use Rattle.rules.specs.State.{told as told_of};
 ghost use Rattle.byte_search.specs.Search.{First};
-ghost use Rattle.rules.specs.Strings.{quote_end, string_of, string as stringAt};
+ghost use Rattle.rules.specs.Strings.{quote_end, string_of, string as string_at};
 ghost use Rattle.words.specs.Quotes.{Closes};
 
 use byte_search::{memchr, until};
@@ -31,7 +31,7 @@ pub fn quote_end(quote: u8, rest: &[u8]) -> Option<usize>
 
 // A string of this text between its quotes.
 fn quoted(kind: Kind, text: &[u8], value: Option<u64>, state: LexerState) -> Verdict
-    ensures { result ≡ toldOf kind (length text.now + 2) 1 (length text.now + 1) value state idle }
+    ensures { result ≡ told_of kind (length text.now + 2) 1 (length text.now + 1) value state idle }
 {
     Verdict::Piece(Step {
         kind,
@@ -59,7 +59,7 @@ fn string_of(text: &[u8], state: LexerState) -> Verdict
 
 // The string that a quote opens, with these bytes behind the quote.
 pub fn eat_string(quote: u8, rest: &[u8], state: LexerState) -> Verdict
-    ensures { result ≡ stringAt quote state rest.now }
+    ensures { result ≡ string_at quote state rest.now }
 {
     match quote_end(quote, rest) {
         Some(len) => string_of(until(rest, len), state),

@@ -1,10 +1,5 @@
 use Rattle.std.proofs.Common.{length, Some, arith}
-use Rattle.pieces.specs.declared.kind.Kind.TheVariants.{Text}
-use Rattle.rules.specs.declared.LexerState.TheVariants.{Template}
-use Rattle.rules.specs.declared.Pending.TheVariants.{Nothing}
 use Rattle.rules.specs.Config.{config_of}
-use Rattle.rules.specs.State.{plain}
-use Rattle.texts.proofs.Gaps.{plain_inside}
 use Rattle.texts.proofs.Seeking.{is_none, is_some, text_end, text_all, text_found}
 use Rattle.texts.proofs.text.Goals as goal
 
@@ -16,11 +11,9 @@ returns-then-is_empty g c =
       inside = omega arith;
     }
 
-pub returns-in_default : goal.returns-in_default
-returns-in_default g c = record {
-  value = text_all (g.F.Finder.openings c.args.finder.now) (config_of c.args.settings.now) c.args.source.now c.after-rest.result.now c.args.offset c.after-rest.ensures.value c.plain.result (is_some (length c.after-rest.result.now) c.if-is_empty.ensures) c.in_default.ensures.value c.plain.ensures;
-  inside = plain_inside c.plain.result _ (plain Text (length c.after-rest.result.now) Template Nothing) c.plain.ensures (omega arith, omega arith, omega arith);
-}
+pub returns-in_default-clause-value : goal.returns-in_default-clause-value
+returns-in_default-clause-value g c =
+    text_all (g.F.Finder.openings c.args.finder.now) (config_of c.args.settings.now) c.args.source.now c.after-rest.result.now c.args.offset c.after-rest.ensures.value c.all_text.result (is_some (length c.after-rest.result.now) c.if-is_empty.ensures) c.in_default.ensures.value c.all_text.ensures.value
 
 pub returns : goal.returns
 returns g c = record {
