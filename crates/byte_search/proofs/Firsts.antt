@@ -1,10 +1,12 @@
 -- The laws of is_in, first_in and distance_to: each finds the first place.
-use Rattle.std.proofs.Common.{◌≡◌, ℕ, zero, suc, ◌+◌, ◌-◌, ◌<◌, ◌≤◌, true, false, eqb, List, [], ◌∷◌, length, get_or, drop, Some, None, Decides, Option, sym, refl, ap, ◌∙◌, subst, ⊎_elim, arith}
-use Rattle.std.proofs.lemmas.List.{drop-drop, get_or-drop, length-drop}
+use Rattle.std.proofs.Common.{◌≡◌, ℕ, zero, suc, ◌+◌, ◌-◌, ◌<◌, ◌≤◌, true, false, eqb, List, [], ◌∷◌, length, get_or, drop, Some, None, MatchOption, Option, sym, refl, ap, ◌∙◌, subst, ⊎_elim, arith}
+use Rattle.std.specs.List.{AllWithin, HoldsAt}
+use Rattle.std.proofs.lemmas.List.{get_or-drop, length-drop}
 use Rattle.std.proofs.lemmas.Bool.{eq-eqb, eqb-true, cases_Bool, cases_lt, cases_order, both_ways, false≢true}
-use Rattle.std.proofs.lemmas.List.Prefix.{front_reads}
+use Rattle.std.proofs.lemmas.List.Prefix.{front_reads, at_reads, at_from_reads}
+use Rattle.memchr.specs.Find.{IsFirstByte, is_byte, OccursAt, FindsNeedle}
 use Rattle.byte_search.specs.Search.{stands_at, is_in, further, first_in, distance_to, First, Among, Holds, HoldsAny, Stands}
-use Rattle.byte_search.proofs.Stands.{stands_split, stands_fits}
+use Rattle.byte_search.proofs.Stands.{stands_append, stands_split, stands_fits}
 
 -- two first places of one property are one
 pub first_unique : (P : ℕ → Type 0) (a b : Option ℕ) → First P a → First P b → a ≡ b
@@ -43,9 +45,6 @@ among_is_in (n ∷ ns) b (zero, h, e) = rw (eq-eqb n b e, is_in) refl
 among_is_in (n ∷ ns) b (suc j, h, e) =
     elim (eqb n b) as (λ t. elim t [ true ↦ true | false ↦ is_in ns b ] ≡ true) [ true ↦ refl | false ↦ among_is_in ns b (j, omega arith, e) ]
 
-pub is_in_decides : (ns : List ℕ) (b : ℕ) → Decides (is_in ns b) (Among ns b)
-is_in_decides ns b = (is_in_among ns b, among_is_in ns b)
-
 pub first_in_here : (ns : List ℕ) (x : ℕ) (xs : List ℕ) → is_in ns x ≡ true → first_in ns (x ∷ xs) ≡ Some 0
 unfolding first_in
 first_in_here ns x xs e = rw (e, first_in) refl
@@ -70,15 +69,24 @@ first_in_first ns (x ∷ xs) = ⊎_elim
 pub first_in_by : (ns xs : List ℕ) (r : Option ℕ) → First (HoldsAny ns xs) r → r ≡ first_in ns xs
 first_in_by ns xs r f = first_unique (HoldsAny ns xs) r (first_in ns xs) f (first_in_first ns xs)
 
+-- what `position` finds among `ys`
+pub first_from : (ns ys : List ℕ) (r : Option ℕ) → MatchOption r (AllWithin (λ b. Among ns b → ⊥) ys 0 (length ys)) (λ i. (i < length ys) × HoldsAt (Among ns) ys i × AllWithin (λ b. Among ns b → ⊥) ys 0 i) → r ≡ first_in ns ys
+first_from ns ys None a = first_in_by ns ys None (λ k p. a k 0 (omega arith) p.0 p.1)
+first_from ns ys (Some i) f = first_in_by ns ys (Some i) ((f.0, f.1 0), (λ k h p. f.2 k 0 (omega arith) h p.1))
+
+-- what `memchr` of the library finds
+pub first_of_byte : (b : ℕ) (xs : List ℕ) (r : Option ℕ) → IsFirstByte (is_byte b) xs r → First (Holds b xs) r
+first_of_byte b xs None f = λ k p. f k (omega arith) p.0 (eq-eqb _ b p.1)
+first_of_byte b xs (Some i) f = ((f.0.high, eqb-true _ b f.1), λ k h p. f.0.before k (omega arith) h (eq-eqb _ b p.1))
+
 -- one of one byte is that byte
-pub among_one : (b x : ℕ) → Among (b ∷ []) x → x ≡ b
+among_one : (b x : ℕ) → Among (b ∷ []) x → x ≡ b
 among_one b x (zero, h, e) = sym e
 among_one b x (suc j, h, e) = absurd (omega arith)
 
-pub first_of_one : (b : ℕ) (xs : List ℕ) (r : Option ℕ) → First (HoldsAny (b ∷ []) xs) r → First (Holds b xs) r
-first_of_one b xs r = first_like (HoldsAny (b ∷ []) xs) (Holds b xs) r
-    (λ k p. (p.0, among_one b (get_or xs k 0) p.1))
-    (λ k p. (p.0, (0, omega arith, sym p.1)))
+pub byte_by : (b : ℕ) (xs : List ℕ) (r : Option ℕ) → First (Holds b xs) r → r ≡ first_in (b ∷ []) xs
+byte_by b xs r f = first_in_by (b ∷ []) xs r
+    (first_like (Holds b xs) (HoldsAny (b ∷ []) xs) r (λ k p. (p.0, (0, omega arith, sym p.1))) (λ k p. (p.0, among_one b (get_or xs k 0) p.1)) f)
 
 pub distance_here : (ds xs : List ℕ) → stands_at ds xs ≡ true → distance_to ds xs ≡ Some 0
 unfolding distance_to
@@ -130,26 +138,17 @@ stands_lead ds xs k h (p, e) =
     let z : k + 0 ≡ k = omega arith in
     (omega arith, ap (λ j. get_or xs j 0) (sym z) ∙ sym (get_or-drop k xs 0 0) ∙ front_reads 0 (drop k xs) ds (drop (length ds) (drop k xs)) (stands_split ds (drop k xs) e) 0 h)
 
--- no bytes stand at once
-pub stands_empty : (ds xs : List ℕ) → length ds < 1 → First (Stands ds xs) (Some 0)
-unfolding stands_at
-stands_empty [] xs h = ((omega arith, refl), λ k l. absurd (omega arith))
-stands_empty (d ∷ ds) xs h = absurd (omega arith)
+-- the needle occurs, as the library says it, where it stands
+stands_occurs : (ds xs : List ℕ) (k : ℕ) → Stands ds xs k → OccursAt xs ds k
+stands_occurs ds xs k p = record { fits = stands_room ds xs k p; reads = at_reads 0 xs ds k _ (stands_split ds (drop k xs) p.1) }
 
--- one step of a search for `ds` by its first byte: nothing stands before `i`, and `ys` are the bytes from `i` on
-module _ (ds xs ys : List ℕ) (i : ℕ) (h : 0 < length ds) (e : ys ≡ drop i xs) (clear : (k : ℕ) → k < i → Stands ds xs k → ⊥) where
-  lead_behind : (k : ℕ) → i ≤ k → Stands ds xs k → Holds (get_or ds 0 0) ys (k - i)
-  lead_behind k l p =
-      let q = stands_lead ds xs k h p in
-      let z : i + (k - i) ≡ k = omega arith in
-      (omega (arith, q.0, length-drop i xs, ap length e), ap (λ t. get_or t (k - i) 0) e ∙ get_or-drop i xs (k - i) 0 ∙ ap (λ j. get_or xs j 0) z ∙ q.1)
+occurs_stands : (ds xs : List ℕ) (k : ℕ) → OccursAt xs ds k → Stands ds xs k
+occurs_stands ds xs k o = (omega (arith, o.fits), ap (stands_at ds) (at_from_reads 0 xs ds k o.fits o.reads) ∙ stands_append ds (drop (k + length ds) xs))
 
-  -- a needle does not stand before its first byte does
-  pub lead_skip : (d : ℕ) → First (Holds (get_or ds 0 0) ys) (Some d) → (k : ℕ) → k < i + d → Stands ds xs k → ⊥
-  lead_skip d f k l p = ⊎_elim (λ b. clear k b p) (λ b. f.1 (k - i) (omega arith) (lead_behind k b p)) (cases_lt k i)
-
-  pub lead_none : First (Holds (get_or ds 0 0) ys) None → (k : ℕ) → Stands ds xs k → ⊥
-  lead_none f k p = ⊎_elim (λ b. clear k b p) (λ b. f (k - i) (lead_behind k b p)) (cases_lt k i)
+-- what `memmem::find` of the library finds
+pub first_of_needle : (ds xs : List ℕ) (r : Option ℕ) → FindsNeedle xs ds 0 r → First (Stands ds xs) r
+first_of_needle ds xs None f = λ k p. f k (omega arith) (omega (arith, p.0)) (stands_occurs ds xs k p)
+first_of_needle ds xs (Some i) f = (occurs_stands ds xs i f.1, λ k h p. f.0.before k (omega arith) h (stands_occurs ds xs k p))
 
 -- `n` places further
 abbrev pub shift : ℕ → Option ℕ → Option ℕ
@@ -170,10 +169,9 @@ first_in_shift ns xs i n = sym (first_in_by ns xs (shift i (first_in ns (drop i 
     (omega (arith, p.0, length-drop i xs), subst (λ b. Among ns b) (sym (get_or-drop i xs (k - i) 0 ∙ ap (λ j. get_or xs j 0) z)) p.1))
     (first_in_first ns (drop i xs))))
 
-pub distance_shift : (ds xs : List ℕ) (i : ℕ) → i ≤ length xs → ((k : ℕ) → k < i → Stands ds xs k → ⊥) → distance_to ds xs ≡ shift i (distance_to ds (drop i xs))
-distance_shift ds xs i l n = sym (distance_by ds xs (shift i (distance_to ds (drop i xs)))
-    (first_shift (Stands ds xs) (Stands ds (drop i xs)) i (distance_to ds (drop i xs)) n
-    (λ k p. (omega (arith, p.0, length-drop i xs), ap (stands_at ds) (sym (drop-drop k i xs)) ∙ p.1))
-    (λ k h p. let z : i + (k - i) ≡ k = omega arith in
-    (omega (arith, p.0, length-drop i xs), ap (stands_at ds) (drop-drop (k - i) i xs ∙ ap (λ j. drop j xs) z) ∙ p.1))
-    (distance_first ds (drop i xs))))
+-- what is found behind `i`, which the search has passed
+pub found_behind : (ns xs : List ℕ) (i : ℕ) (r : Option ℕ) → ((k : ℕ) → k < i → HoldsAny ns xs k → ⊥) → r ≡ first_in ns (drop i xs) → shift i r ≡ first_in ns xs
+found_behind ns xs i r n e = ap (shift i) e ∙ sym (first_in_shift ns xs i n)
+
+pub found_first : (ns xs : List ℕ) (r : Option ℕ) → r ≡ first_in ns xs → First (HoldsAny ns xs) r
+found_first ns xs r e = subst (First (HoldsAny ns xs)) (sym e) (first_in_first ns xs)

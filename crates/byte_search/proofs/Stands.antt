@@ -1,29 +1,9 @@
--- The laws of stands_at, and of the parts that `after` and `until` give.
-use Rattle.std.proofs.Common.{◌≡◌, ℕ, ◌-◌, ◌≤◌, min, Bool, true, false, eqb, List, [], ◌∷◌, ◌++◌, length, take, drop, Decides, sym, refl, ap, ◌∙◌, ⊎_elim, arith}
-use Rattle.std.proofs.lemmas.List.{drop_all, take_all, take_rest, length-append}
-use Rattle.std.proofs.lemmas.Bool.{eq-eqb, ne_eqb, eqb-true, cases_Bool, cases_lt, both_ways, false≢true}
+-- The laws of stands_at.
+use Rattle.std.proofs.Common.{◌≡◌, ℕ, ◌≤◌, Bool, true, false, eqb, List, [], ◌∷◌, ◌++◌, length, drop, Decides, sym, refl, ap, ◌∙◌, ⊎_elim, arith}
+use Rattle.std.proofs.lemmas.List.{length-append}
+use Rattle.std.proofs.lemmas.Bool.{eq-eqb, ne_eqb, eqb-true, cases_Bool, both_ways, false≢true}
 use Rattle.std.proofs.lemmas.Bool.Decides.{same_from_decides}
 use Rattle.byte_search.specs.Search.{stands_at}
-
--- cutting at the end is cutting past it
-pub drop_min : (xs : List ℕ) (i : ℕ) → drop (min i (length xs)) xs ≡ drop i xs
-drop_min xs i = ⊎_elim
-    (λ h. let e : min i (length xs) ≡ i = omega arith in ap (λ n. drop n xs) e)
-    (λ h. let e : min i (length xs) ≡ length xs = omega arith in drop_all (min i (length xs)) xs (omega arith) ∙ sym (drop_all i xs h))
-    (cases_lt i (length xs))
-
-pub take_min : (xs : List ℕ) (i : ℕ) → take (min i (length xs)) xs ≡ take i xs
-take_min xs i = ⊎_elim
-    (λ h. let e : min i (length xs) ≡ i = omega arith in ap (λ n. take n xs) e)
-    (λ h. take_all (min i (length xs)) xs (omega arith) ∙ sym (take_all i xs h))
-    (cases_lt i (length xs))
-
--- what is cut from a place that is kept within the bytes
-pub after_is : (xs : List ℕ) (i m : ℕ) → m ≡ min i (length xs) → take (length xs - m) (drop m xs) ≡ drop i xs
-after_is xs i m e = take_rest xs m ∙ ap (λ n. drop n xs) e ∙ drop_min xs i
-
-pub until_is : (xs : List ℕ) (i m : ℕ) → m ≡ min i (length xs) → take m xs ≡ take i xs
-until_is xs i m e = ap (λ n. take n xs) e ∙ take_min xs i
 
 pub stands_same : (d x : ℕ) (ds xs : List ℕ) → d ≡ x → stands_at (d ∷ ds) (x ∷ xs) ≡ stands_at ds xs
 unfolding stands_at
@@ -58,16 +38,6 @@ stands_decides ds xs = (λ e. (drop (length ds) xs, stands_split ds xs e), λ p.
 pub stands_fits : (ds xs : List ℕ) → stands_at ds xs ≡ true → length ds ≤ length xs
 stands_fits ds xs e = omega (arith, ap length (stands_split ds xs e), length-append ds (drop (length ds) xs))
 
-pub yes_decides : (P : Type 0) → P → Decides true P
-yes_decides P p = (λ e. p, λ q. refl)
-
-pub not_decides : (P : Type 0) → (P → ⊥) → Decides false P
-not_decides P n = (λ e. absurd (false≢true e), λ p. absurd (n p))
-
 -- an answer that decides whether `ds` stands is stands_at
 pub stands_by : (r : Bool) (ds xs : List ℕ) → Decides r ((rest : List ℕ) × (xs ≡ ds ++ rest)) → r ≡ stands_at ds xs
 stands_by r ds xs d = same_from_decides r (stands_at ds xs) d (stands_decides ds xs)
-
--- a test at what is left of the bytes
-pub stands_told : (ds ys zs : List ℕ) (r t : Bool) → ys ≡ zs → r ≡ stands_at ds ys → r ≡ t → stands_at ds zs ≡ t
-stands_told ds ys zs r t e f g = ap (stands_at ds) (sym e) ∙ sym f ∙ g

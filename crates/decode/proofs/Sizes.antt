@@ -1,5 +1,5 @@
 -- What is decoded is no longer than its text.
-use Rattle.std.proofs.Common.{◌≡◌, ℕ, zero, suc, ◌+◌, ◌-◌, ◌*◌, ◌<◌, ◌≤◌, Bool, true, false, eqb, leb, List, [], ◌∷◌, map, length, drop, Some, None, IsUtf8, Option, refl, ap, subst, arith}
+use Rattle.std.proofs.Common.{◌≡◌, ℕ, zero, suc, ◌+◌, ◌-◌, ◌*◌, ◌<◌, ◌≤◌, Bool, true, false, eqb, leb, List, [], ◌∷◌, map, length, drop, Some, None, Err, IsUtf8, Option, refl, ap, subst, arith}
 use lib.Utf8.{scalar, scalars, encode, encodes, low_scalar}
 use Rattle.std.proofs.lemmas.List.{length-append, length-drop, length-take}
 use Rattle.std.proofs.lemmas.Bool.{leb-true, and_from, and_parts}
@@ -7,8 +7,7 @@ use Rattle.std.proofs.lemmas.Str.{length-encode, len_utf8_bounds}
 use Rattle.std.proofs.lemmas.Bool.Decides.{nat_tests}
 use Rattle.std.specs.Char.{len_utf8}
 use Rattle.std.specs.List.{AllByRecursion}
-use Rattle.stream.specs.declared.answer.Ending.{Ending}
-use Rattle.stream.specs.declared.answer.Ending.TheVariants.{Failed}
+use Rattle.stream.specs.Told.{Ending}
 use Rattle.utf8.specs.declared.NotUtf8.{NotUtf8 as Illformed}
 use Rattle.utf8.specs.Utf8.{characters, prefix}
 use Rattle.utf8.proofs.Laws.{characters_scalars, prefix_front}
@@ -221,10 +220,10 @@ ends_small : (f : Ending DecodeFault) (n : ℕ) → Small (ends f) n
 ends_small f n = record { few = omega arith; fine = refl }
 
 behind_small : (c : Indexed) (cs : List Indexed) (e : Ending Illformed) (g : Given) → Fits cs g → ((n : ℕ) → Small (unescaped_from n cs e) (size (drop n cs)))
-    → Small (elim g [ Gives v n ↦ first v (unescaped_from n cs e) | Bad ↦ ends (Failed (Escape (record { backslash = c.0 }))) ]) (size (c ∷ cs))
+    → Small (elim g [ Gives v n ↦ first v (unescaped_from n cs e) | Bad ↦ ends (Err (Escape (record { backslash = c.0 }))) ]) (size (c ∷ cs))
 behind_small c cs e (Gives v n) h k =
     small_more v (size (drop n cs)) (suc n) (size (c ∷ cs)) (unescaped_from n cs e) h.0 h.1 (omega (arith, size_more c cs, encode_some c.1, size_drop n cs h.2)) (k n)
-behind_small c cs e Bad h k = ends_small (Failed (Escape (record { backslash = c.0 }))) (size (c ∷ cs))
+behind_small c cs e Bad h k = ends_small (Err (Escape (record { backslash = c.0 }))) (size (c ∷ cs))
 
 unescaped_small : (k : ℕ) (cs : List Indexed) (e : Ending Illformed) → scalars (map (λ p. p.1) cs) ≡ true → Small (unescaped_from k cs e) (size (drop k cs))
 unfolding unescaped_from
@@ -234,7 +233,7 @@ unescaped_small (suc k) (c ∷ cs) e s = unescaped_small k cs e (and_parts (scal
 unescaped_small zero (c ∷ cs) e s =
     let p = and_parts (scalar c.1) (scalars (map (λ p. p.1) cs)) s in
     elim (eqb c.1 92) as (λ b. Small (elim b [
-      | true ↦ elim (escape cs) [ Gives v n ↦ first v (unescaped_from n cs e) | Bad ↦ ends (Failed (Escape (record { backslash = c.0 }))) ]
+      | true ↦ elim (escape cs) [ Gives v n ↦ first v (unescaped_from n cs e) | Bad ↦ ends (Err (Escape (record { backslash = c.0 }))) ]
       | false ↦ first c.1 (unescaped_from zero cs e)
     ]) (size (c ∷ cs))) [
       | true ↦ behind_small c cs e (escape cs) (escape_fits cs) (λ n. unescaped_small n cs e p.1)

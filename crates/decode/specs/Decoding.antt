@@ -1,8 +1,7 @@
 -- What decoding a string text answers.
 use Rattle.std.specs.Prelude.{ℕ, ◌≤◌, true, false, List, ◌++◌, length, drop, Ok, Err, IsUtf8, Result, ◌==◌, nat_le}
 use Rattle.std.proofs.Math.Utf8.{encodes}
-use Rattle.stream.specs.declared.answer.Ending.{Ending}
-use Rattle.stream.specs.declared.answer.Ending.TheVariants.{Finished, Failed}
+use Rattle.stream.specs.Told.{Ending}
 use Rattle.utf8.specs.Utf8.{characters, prefix}
 use Rattle.escape.specs.declared.fault.DecodeFault.{DecodeFault}
 use Rattle.escape.specs.declared.fault.DecodeFault.TheVariants.{NotUtf8}
@@ -26,8 +25,8 @@ unescapes xs = unescaped (characters 0 xs) (closed 0 xs)
 
 -- code points that finish are done, and their UTF-8 is the answer; those that fail are refused
 abbrev pub answer : List ℕ → Ending DecodeFault → Told (List ℕ)
-answer cs Finished = Done (encodes cs)
-answer cs (Failed f) = Refused (number_of f) (place_of f)
+answer cs (Ok x) = Done (encodes cs)
+answer cs (Err f) = Refused (number_of f) (place_of f)
 
 -- the same of what characters mean
 abbrev pub answer_of : Unescaped → Told (List ℕ)
@@ -45,7 +44,7 @@ length_told (Refused n p) = Refused n p
 
 -- how many bytes a text becomes, or why it is refused
 abbrev pub length_of : Unescaped → Result ℕ DecodeFault
-length_of u = elim u.ending [ Finished ↦ Ok (length (encodes u.points)) | Failed f ↦ Err f ]
+length_of u = elim u.ending [ Ok x ↦ Ok (length (encodes u.points)) | Err f ↦ Err f ]
 
 -- the same of any bytes, of which those that are not UTF-8 are refused first
 abbrev pub decoded_len : List ℕ → Result ℕ DecodeFault

@@ -2,9 +2,9 @@
 
 #![tactic(auto)]
 
-ghost use Rattle.std.specs.Prelude.{◌≡◌, ◌+◌, ◌≤◌, ◌++◌, length, take, drop, IfOk, OnOk};
+ghost use Rattle.std.specs.Prelude.{◌≡◌, ◌+◌, ◌≤◌, ◌++◌, length, take, drop, IfOk, OnOk, Some};
 ghost use Rattle.std.proofs.Math.Utf8.{encode, encodes};
-ghost use Rattle.decode.specs.Answers.{Decoded};
+ghost use Rattle.decode.specs.Answers.{Decoded, error_text};
 ghost use Rattle.decode.specs.declared.DecodeError.TheVariants.{Fault as faulty, NoMemory as unallocated};
 ghost use Rattle.decode.specs.Examples.{ExamplesHold};
 ghost use Rattle.decode.specs.Decoding.{told, answer_of, unescapes, decode, decoded_len, length_of, length_told, written, overwritten, IsText};
@@ -12,10 +12,13 @@ ghost use Rattle.decode.specs.Decoding.{told, answer_of, unescapes, decode, deco
 use escape::{DecodeFault, Unescaper};
 use finder::NoFinder;
 use std::alloc::{AllocError, Global};
-use stream::{Answer, Ending, Stream};
+use std::error::Error;
+use std::fmt;
+use stream::Stream;
 use utf8::check_utf8;
 
 // How many bytes the characters of the text become.
+#[tactic(auto, using(crate::proofs::Sizes::decoded_few))]
 fn unescaped_len(text: &[u8]) -> Result<usize, DecodeFault>
     ensures value { told result ≡ length_told (answer_of (unescapes text.now)) }
     ensures result { result ≡ length_of (unescapes text.now) }
@@ -23,15 +26,10 @@ fn unescaped_len(text: &[u8]) -> Result<usize, DecodeFault>
 {
     let mut chars = Unescaper::new(text);
     let mut len = 0;
-    loop {
-        match chars.next(&NoFinder) {
-            Answer::Item(c) => len += c.len_utf8(),
-            Answer::End(e) => match e {
-                Ending::Finished => return Ok(len),
-                Ending::Failed(fault) => return Err(fault),
-            },
-        }
+    while let Some(c) = chars.next(&NoFinder)? {
+        len += c.len_utf8();
     }
+    Ok(len)
 }
 
 // How many bytes the text becomes.
@@ -62,13 +60,15 @@ fn write_unescaped(text: &[u8], dst: &mut [u8])
     ensures { dst.new ≡ encodes (unescapes text.now).points ++ drop (length (encodes (unescapes text.now).points)) dst.old }
 {
     let mut chars = Unescaper::new(text);
+    // the place is counted by hand: what is left of a `&mut` would have to be handed back through each borrow, which is no plainer
     let mut at = 0;
-    while let Answer::Item(c) = chars.next(&NoFinder) {
+    while let Ok(Some(c)) = chars.next(&NoFinder) {
         at += put(dst, at, c);
     }
 }
 
 // Writes the bytes that the text means to the front of the destination, and tells how many they are. A refusal leaves the destination as it is.
+#[tactic(auto, using(crate::proofs::Decoded::decoded_text, crate::proofs::Evaluated::examples_hold))]
 pub fn decode_into(text: &[u8], dst: &mut [u8]) -> Result<usize, DecodeFault>
     ensures value { told result ≡ written (decode text.now) (length dst.old) }
     ensures after { dst.new ≡ overwritten (decode text.now) dst.old }
@@ -84,13 +84,27 @@ pub fn decode_into(text: &[u8], dst: &mut [u8]) -> Result<usize, DecodeFault>
 }
 
 // Why a text could not be decoded into memory of its own.
-#[derive(Clone, Copy)]
+#[derive(Clone, Copy, Debug, PartialEq, Eq)]
 pub enum DecodeError {
     // the text is refused
     Fault(DecodeFault),
     // there is no memory for the bytes
     NoMemory,
 }
+
+// Shown as the fault, or that there is no memory.
+impl fmt::Display for DecodeError {
+    ghost output = { λ e. Some (error_text e) };
+
+    fn fmt<W: fmt::Write>(&self, f: &mut fmt::Formatter<W>) -> fmt::Result {
+        match self {
+            DecodeError::Fault(fault) => write!(f, "{fault}"),
+            DecodeError::NoMemory => f.write_str("no memory"),
+        }
+    }
+}
+
+impl Error for DecodeError {}
 
 impl From<DecodeFault> for DecodeError {
     ghost from_gives = { λ x y. y ≡ faulty x };
@@ -108,31 +122,12 @@ impl From<AllocError> for DecodeError {
     }
 }
 
-// Appends the UTF-8 of a character.
-fn push_char(bytes: &mut Vec<u8>, c: char) -> Result<(), AllocError>
-    ensures { OnOk result (bytes.new.items ≡ bytes.old.items ++ encode c) }
-{
-    let mut buf = [0; 4];
-    bytes.extend_from_slice(c.encode_utf8(&mut buf).as_bytes())
-}
-
-// Appends what the characters of the text become.
-fn push_unescaped(bytes: &mut Vec<u8>, text: &[u8]) -> Result<(), AllocError>
-    ensures { OnOk result (bytes.new.items ≡ bytes.old.items ++ encodes (unescapes text.now).points) }
-{
-    let mut chars = Unescaper::new(text);
-    while let Answer::Item(c) = chars.next(&NoFinder) {
-        push_char(bytes, c)?;
-    }
-    Ok(())
-}
-
 // The bytes that the text means, in memory of their own.
 pub fn decode_to_vec(heap: Global, text: &[u8]) -> Result<Vec<u8>, DecodeError>
     ensures { Decoded result (decode text.now) }
 {
     let len = decoded_len(text)?;
-    let mut bytes = Vec::with_capacity(heap, len)?;
-    push_unescaped(&mut bytes, text)?;
+    let mut bytes = vec![in heap; 0; len]?;
+    write_unescaped(text, bytes.as_mut_slice());
     Ok(bytes)
 }

@@ -1,9 +1,8 @@
 -- How the characters of a text end, step by step.
-use Rattle.std.proofs.Common.{◌≡◌, ℕ, ◌+◌, ◌<◌, ◌≤◌, Bool, true, false, eqb, List, [], ◌∷◌, length, drop, Some, None, sym, ap, ◌∙◌, ⊎_elim, arith}
+use Rattle.std.proofs.Common.{◌≡◌, ℕ, ◌+◌, ◌<◌, ◌≤◌, Bool, true, false, eqb, List, [], ◌∷◌, length, drop, Some, None, Ok, Err, sym, ap, ◌∙◌, ⊎_elim, arith}
 use Rattle.std.proofs.lemmas.List.{length-drop, drop-drop}
 use Rattle.std.proofs.lemmas.Bool.{eq-eqb, ne_eqb, cases_eq}
-use Rattle.stream.specs.declared.answer.Ending.{Ending}
-use Rattle.stream.specs.declared.answer.Ending.TheVariants.{Finished, Failed}
+use Rattle.stream.specs.Told.{Ending}
 use Rattle.utf8.specs.declared.Char.{Char}
 use Rattle.utf8.specs.declared.NotUtf8.{NotUtf8}
 use Rattle.utf8.specs.Utf8.{char_at, characters, prefix}
@@ -12,7 +11,7 @@ use Rattle.escape.specs.Characters.{closed}
 
 -- the ending at a place, by the test of the lengths
 ending : ℕ → Bool → Ending NotUtf8
-ending at b = elim b [ true ↦ Finished | false ↦ Failed (record { byte = at }) ]
+ending at b = elim b [ true ↦ Ok tt | false ↦ Err (record { byte = at }) ]
 
 same_test : (w p l m : ℕ) → l ≡ w + m → eqb (w + p) l ≡ eqb p m
 same_test w p l m e = ⊎_elim
@@ -32,11 +31,11 @@ closed_more at xs c e =
     let q : at + prefix xs ≡ at + c.width + prefix (drop c.width xs) = omega arith in
     ap (ending (at + prefix xs)) t ∙ ap (λ n. ending n (eqb (prefix (drop c.width xs)) (length (drop c.width xs)))) q
 
-pub closed_none : (at : ℕ) (xs : List ℕ) → char_at xs ≡ None → length xs ≡ 0 → closed at xs ≡ Finished
+pub closed_none : (at : ℕ) (xs : List ℕ) → char_at xs ≡ None → length xs ≡ 0 → closed at xs ≡ Ok tt
 unfolding ending
 closed_none at xs e h = ap (ending (at + prefix xs)) (eq-eqb (prefix xs) (length xs) (omega (arith, prefix_none xs e)))
 
-pub closed_bad : (at : ℕ) (xs : List ℕ) → char_at xs ≡ None → 0 < length xs → closed at xs ≡ Failed (record { byte = at })
+pub closed_bad : (at : ℕ) (xs : List ℕ) → char_at xs ≡ None → 0 < length xs → closed at xs ≡ Err (record { byte = at })
 unfolding ending
 closed_bad at xs e h =
     let z : at + prefix xs ≡ at = omega (arith, prefix_none xs e) in
@@ -54,8 +53,8 @@ module _ (text : List ℕ) (at : ℕ) where
   pub items_none : None ≡ char_at (drop at text) → characters at (drop at text) ≡ []
   items_none e = characters_none at (drop at text) (sym e)
 
-  pub ending_bad : None ≡ char_at (drop at text) → at < length text → Failed (record { byte = at }) ≡ closed at (drop at text)
-  ending_bad e h = sym (closed_bad at (drop at text) (sym e) (simp length-drop (omega arith)))
+  pub ending_bad : None ≡ char_at (drop at text) → at < length text → closed at (drop at text) ≡ Err (record { byte = at })
+  ending_bad e h = closed_bad at (drop at text) (sym e) (simp length-drop (omega arith))
 
-  pub ending_none : None ≡ char_at (drop at text) → length text ≤ at → Finished ≡ closed at (drop at text)
-  ending_none e h = sym (closed_none at (drop at text) (sym e) (simp length-drop (omega arith)))
+  pub ending_none : None ≡ char_at (drop at text) → length text ≤ at → closed at (drop at text) ≡ Ok tt
+  ending_none e h = closed_none at (drop at text) (sym e) (simp length-drop (omega arith))

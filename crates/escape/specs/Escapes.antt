@@ -1,9 +1,8 @@
 -- What the characters of a string text mean.
 -- An escape is a backslash and what the character behind it asks for: RFC 8259, section 7, has the quotation mark, `\`, `/`, b, f, n, r, t and u;
 -- the Python reference, "String and Bytes literals", has the apostrophe, x and octal. A digit is 0 to 9 or a letter: a sign is none.
-use Rattle.std.specs.Prelude.{ℕ, zero, suc, ◌+◌, ◌-◌, ◌*◌, Bool, true, false, ◌&&◌, List, [], ◌∷◌, drop, Some, None, Option, ◌==◌, nat_le}
-use Rattle.stream.specs.declared.answer.Ending.{Ending}
-use Rattle.stream.specs.declared.answer.Ending.TheVariants.{Finished, Failed}
+use Rattle.std.specs.Prelude.{ℕ, zero, suc, ◌+◌, ◌-◌, ◌*◌, Bool, true, false, ◌&&◌, List, [], ◌∷◌, drop, Some, None, Option, Ok, Err, ◌==◌, nat_le}
+use Rattle.stream.specs.Told.{Ending}
 use Rattle.utf8.specs.declared.NotUtf8.{NotUtf8 as Illformed}
 use Rattle.escape.specs.declared.fault.DecodeFault.{DecodeFault}
 use Rattle.escape.specs.declared.fault.DecodeFault.TheVariants.{NotUtf8, Escape}
@@ -141,8 +140,8 @@ ends e = record { points = []; ending = e }
 
 -- characters that are not UTF-8 to the end give that fault at their end
 abbrev pub passed : Ending Illformed → Ending DecodeFault
-passed Finished = Finished
-passed (Failed f) = Failed (NotUtf8 f)
+passed (Ok x) = Ok x
+passed (Err f) = Err (NotUtf8 f)
 
 -- the characters, of which an escape still takes k
 unfoldable pub unescaped_from : ℕ → List Indexed → Ending Illformed → Unescaped
@@ -150,7 +149,7 @@ unescaped_from k [] e = ends (passed e)
 unescaped_from (suc k) (c ∷ cs) e = unescaped_from k cs e
 unescaped_from zero (c ∷ cs) e =
     elim (c.1 == 92) [
-      | true ↦ elim (escape cs) [ Gives v n ↦ first v (unescaped_from n cs e) | Bad ↦ ends (Failed (Escape (record { backslash = c.0 }))) ]
+      | true ↦ elim (escape cs) [ Gives v n ↦ first v (unescaped_from n cs e) | Bad ↦ ends (Err (Escape (record { backslash = c.0 }))) ]
       | false ↦ first c.1 (unescaped_from zero cs e)
     ]
 

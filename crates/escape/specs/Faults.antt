@@ -1,5 +1,5 @@
 -- The numbers and places of refusals.
-use Rattle.std.specs.Prelude.{ℕ, List, codes}
+use Rattle.std.specs.Prelude.{ℕ, List, codes, ◌++◌, decimal}
 use Rattle.escape.specs.declared.fault.DecodeFault.{DecodeFault}
 use Rattle.escape.specs.declared.fault.DecodeFault.TheVariants.{NotUtf8, Escape, TooShort}
 
@@ -20,3 +20,9 @@ abbrev pub name_of : DecodeFault → List ℕ
 name_of (NotUtf8 f) = codes "not UTF-8"
 name_of (Escape f) = codes "bad escape"
 name_of (TooShort n) = codes "destination too short"
+
+-- a refusal as it is shown: its name and place
+abbrev pub fault_text : DecodeFault → List ℕ
+fault_text (NotUtf8 f) = codes "not UTF-8 at byte " ++ decimal f.byte
+fault_text (Escape f) = codes "bad escape at byte " ++ decimal f.backslash
+fault_text (TooShort n) = codes "destination too short, " ++ decimal n ++ codes " bytes needed"

@@ -4,7 +4,7 @@ ghost use Rattle.utf8.specs.Utf8.{characters};
 ghost use Rattle.escape.specs.Characters.{closed};
 
 use finder::Finder;
-use stream::{Answer, Ending, Stream};
+use stream::Stream;
 use utf8::{NotUtf8, char_at};
 
 // The characters of a text from a place on, each with its byte offset. A text that is not UTF-8 fails behind its well-formed prefix.
@@ -26,7 +26,7 @@ impl<'t> CharIndices<'t> {
 impl<'t> Stream for CharIndices<'t> {
     type Item = (usize, char);
 
-    type Ending = Ending<NotUtf8>;
+    type Fault = NotUtf8;
 
     ghost items = { λ c. characters c.at (drop c.at c.text.now) };
 
@@ -36,15 +36,16 @@ impl<'t> Stream for CharIndices<'t> {
 
     ghost left = { λ c. length c.text.now - c.at };
 
-    fn next<F: Finder>(&mut self, _finder: &F) -> Answer<(usize, char), Ending<NotUtf8>> {
+    #[tactic(auto, using(crate::proofs::Closes::items_more, crate::proofs::Closes::ending_more, crate::proofs::Closes::items_none, crate::proofs::Closes::ending_bad, crate::proofs::Closes::ending_none))]
+    fn next<F: Finder>(&mut self, _finder: &F) -> Result<Option<(usize, char)>, NotUtf8> {
         let at = self.at;
         match char_at(self.text, at) {
             Some(c) => {
                 self.at = at + c.width;
-                Answer::Item((at, c.code))
+                Ok(Some((at, c.code)))
             }
-            None if at < self.text.len() => Answer::End(Ending::Failed(NotUtf8 { byte: at })),
-            None => Answer::End(Ending::Finished),
+            None if at < self.text.len() => Err(NotUtf8 { byte: at }),
+            None => Ok(None),
         }
     }
 }

@@ -1,18 +1,20 @@
 // Why a string text is refused.
-ghost use Rattle.std.specs.Prelude.{◌≡◌};
+ghost use Rattle.std.specs.Prelude.{◌≡◌, Some};
 ghost use Rattle.escape.specs.declared.fault.DecodeFault.TheVariants.{NotUtf8 as illformed, Escape as escaped};
-ghost use Rattle.escape.specs.Faults.{name_of, number_of, place_of};
+ghost use Rattle.escape.specs.Faults.{name_of, number_of, place_of, fault_text};
 
+use std::error::Error;
+use std::fmt;
 use utf8::NotUtf8;
 
 // An escape is bad. The place is the byte offset of its backslash in the text.
-#[derive(Clone, Copy)]
+#[derive(Clone, Copy, Debug, PartialEq, Eq)]
 pub struct BadEscape {
     pub backslash: usize,
 }
 
 // Why a decoder refuses a text.
-#[derive(Clone, Copy)]
+#[derive(Clone, Copy, Debug, PartialEq, Eq)]
 pub enum DecodeFault {
     // the text is not UTF-8 from this byte on
     NotUtf8(NotUtf8),
@@ -21,6 +23,21 @@ pub enum DecodeFault {
     // the destination is too short: the bytes needed
     TooShort(usize),
 }
+
+// Shown by its name and place.
+impl fmt::Display for DecodeFault {
+    ghost output = { λ f. Some (fault_text f) };
+
+    fn fmt<W: fmt::Write>(&self, f: &mut fmt::Formatter<W>) -> fmt::Result {
+        let (name, place) = (self.name(), self.place());
+        match self {
+            DecodeFault::TooShort(_) => write!(f, "{name}, {place} bytes needed"),
+            _ => write!(f, "{name} at byte {place}"),
+        }
+    }
+}
+
+impl Error for DecodeFault {}
 
 impl From<NotUtf8> for DecodeFault {
     ghost from_gives = { λ x y. y ≡ illformed x };

@@ -4,6 +4,7 @@
 
 pub mod chars;
 pub mod fault;
+mod source;
 pub mod unescaper;
 
 pub use chars::CharIndices;

@@ -2,12 +2,14 @@
 
 #![tactic(auto)]
 
-ghost use Rattle.std.specs.Prelude.{◌≡◌, List, []};
+ghost use Rattle.std.specs.Prelude.{◌≡◌, List, [], Some};
 ghost use Rattle.finder.specs.Names.{marker_name};
 ghost use Rattle.finder.specs.Finding.{Opening, found_from, Finds, Inside};
 
+use std::fmt;
+
 // What an opening opens.
-#[derive(Clone, Copy)]
+#[derive(Clone, Copy, Debug, PartialEq, Eq)]
 pub enum StartMarker {
     Variable,
     Block,
@@ -31,6 +33,15 @@ impl StartMarker {
     }
 }
 
+// A marker is written as its name.
+impl fmt::Display for StartMarker {
+    ghost output = { λ m. Some (marker_name m) };
+
+    fn fmt<W: fmt::Write>(&self, f: &mut fmt::Formatter<W>) -> fmt::Result {
+        f.write_str(self.name())
+    }
+}
+
 // A finder means the openings that it looks for.
 pub trait Finder {
     ghost openings: { Self → List Opening };
@@ -43,7 +54,7 @@ pub trait Finder {
 }
 
 // The finder that looks for nothing, for streams that ask none.
-#[derive(Clone, Copy)]
+#[derive(Clone, Copy, Debug, Default)]
 pub struct NoFinder;
 
 impl Finder for NoFinder {

@@ -1,27 +1,44 @@
--- One byte more of a line.
-use Rattle.std.proofs.Common.{◌≡◌, ℕ, ◌+◌, ◌-◌, ◌<◌, ◌≤◌, true, false, ◌||◌, eqb, ◌⊎◌, List, ◌∷◌, reverse, length, get_or, take, ap, ◌∙◌, inl, inr, add-one, arith}
-use Rattle.std.proofs.lemmas.Bool.{ne_eqb}
+-- Bytes of a line: the last of them that is no space and no tab decides.
+use Rattle.std.proofs.Common.{◌≡◌, ℕ, Bool, true, false, cond, not, ◌≤◌, List, [], ◌∷◌, ◌++◌, take, drop, Some, None, sym, refl, ap, ◌∙◌, ⊎_elim, arith}
+use Rattle.std.proofs.lemmas.Bool.{cases_Bool}
+use Rattle.std.proofs.lemmas.List.{take-take, take-append-drop}
+use Rattle.std.proofs.lemmas.Bool.Decides.{nat_tests}
+use Rattle.std.specs.List.{find}
 use Rattle.finder.specs.Finding.{is_line_end, is_space_or_tab, blank_line}
-use Rattle.finder.proofs.Lines.{before_more, blank_end, blank_on, blank_not}
+use Rattle.finder.proofs.Lines.{blank_end, blank_on, blank_not}
 
-pub end_byte : (b : ℕ) (bs : List ℕ) → (b ≡ 10) ⊎ (b ≡ 13) → blank_line (b ∷ bs) ≡ true
-end_byte b bs (inl e) = blank_end b bs (ap is_line_end e)
-end_byte b bs (inr e) = blank_end b bs (ap is_line_end e)
+no_end : (b : ℕ) → is_space_or_tab b ≡ true → is_line_end b ≡ false
+no_end b e = grind (arith, nat_tests)
 
-pub blank_byte : (b : ℕ) (bs : List ℕ) → (b ≡ 9) ⊎ (b ≡ 32) → blank_line (b ∷ bs) ≡ blank_line bs
-blank_byte b bs (inl e) = blank_on b bs (ap is_line_end e) (ap is_space_or_tab e)
-blank_byte b bs (inr e) = blank_on b bs (ap is_line_end e) (ap is_space_or_tab e)
+-- a byte that is no space and no tab
+abbrev pub other : ℕ → Bool
+other b = not (is_space_or_tab b)
 
-neither : (b x y : ℕ) → (b ≡ x → ⊥) → (b ≡ y → ⊥) → (eqb b x || eqb b y) ≡ false
-neither b x y p q = ap (λ t. t || eqb b y) (ne_eqb b x p) ∙ ne_eqb b y q
+passed : (b : ℕ) (bs : List ℕ) → is_space_or_tab b ≡ true → find other (b ∷ bs) ≡ find other bs
+passed b bs e = ap (λ t. cond (not t) (Some b) (find other bs)) e
 
-pub other_byte : (b : ℕ) (bs : List ℕ) → (b ≡ 13 → ⊥) → (b ≡ 10 → ⊥) → (b ≡ 32 → ⊥) → (b ≡ 9 → ⊥) → blank_line (b ∷ bs) ≡ false
-other_byte b bs p q r s = blank_not b bs (neither b 13 10 p q) (neither b 32 9 r s)
+decides : (b : ℕ) (bs : List ℕ) → is_space_or_tab b ≡ false → blank_line (b ∷ bs) ≡ is_line_end b
+decides b bs e = ⊎_elim (λ l. blank_end b bs l ∙ sym l) (λ l. blank_not b bs l e ∙ sym l) (cases_Bool (is_line_end b))
 
--- the bytes before a place, and the byte at it
-pub line_more : (xs : List ℕ) (k : ℕ) → k < length xs → blank_line (reverse (take (k + 1) xs)) ≡ blank_line (get_or xs k 0 ∷ reverse (take k xs))
-line_more xs k h = ap (λ n. blank_line (reverse (take n xs))) (add-one k) ∙ ap blank_line (before_more xs k h)
+-- the newest such byte decides
+pub blank_found : (bs before : List ℕ) (b : ℕ) → find other bs ≡ Some b → blank_line (bs ++ before) ≡ is_line_end b
+blank_found [] before b e = cc
+blank_found (x ∷ bs) before b e = ⊎_elim
+    (λ q. blank_on x (bs ++ before) (no_end x q) q ∙ blank_found bs before b (sym (passed x bs q) ∙ e))
+    (λ q. let z : Some x ≡ Some b = sym (ap (λ t. cond (not t) (Some x) (find other bs)) q) ∙ e in let w : x ≡ b = cc in decides x (bs ++ before) q ∙ ap is_line_end w)
+    (cases_Bool (is_space_or_tab x))
 
--- the same, from the place behind it back
-pub line_back : (xs : List ℕ) (i : ℕ) → 0 < i → i ≤ length xs → blank_line (reverse (take i xs)) ≡ blank_line (get_or xs (i - 1) 0 ∷ reverse (take (i - 1) xs))
-line_back xs i h l = let z : i ≡ (i - 1) + 1 = omega arith in ap (λ n. blank_line (reverse (take n xs))) z ∙ line_more xs (i - 1) (omega arith)
+-- where there is none, what lies before does
+pub blank_passed : (bs before : List ℕ) → find other bs ≡ None → blank_line (bs ++ before) ≡ blank_line before
+blank_passed [] before e = refl
+blank_passed (x ∷ bs) before e = ⊎_elim
+    (λ q. blank_on x (bs ++ before) (no_end x q) q ∙ blank_passed bs before (sym (passed x bs q) ∙ e))
+    (λ q. let z : Some x ≡ None = sym (ap (λ t. cond (not t) (Some x) (find other bs)) q) ∙ e in cc)
+    (cases_Bool (is_space_or_tab x))
+
+-- the bytes up to a place, and those between it and a later one
+pub seen_on : (xs ys zs : List ℕ) (i k : ℕ) → i ≤ k → ys ≡ take k xs → zs ≡ drop i ys → take i xs ++ zs ≡ take k xs
+seen_on xs ys zs i k h p q =
+    ap (λ l. take i xs ++ l) (q ∙ ap (drop i) p)
+    ∙ ap (λ l. l ++ drop i (take k xs)) (sym (take-take i k xs h))
+    ∙ take-append-drop i (take k xs)

@@ -45,7 +45,7 @@ led_cons ns o os l a w p h = ⊎_elim
     (has_cases o p os h)
 
 -- where an opening qualifies, one of the bytes is
-lead_at : (ns : List ℕ) (os : List Opening) (xs : List ℕ) (k : ℕ) (o : Opening) → Led ns os → Has os o → QualifiesAt o xs k → HoldsAny ns xs k
+pub lead_at : (ns : List ℕ) (os : List Opening) (xs : List ℕ) (k : ℕ) (o : Opening) → Led ns os → Has os o → QualifiesAt o xs k → HoldsAny ns xs k
 lead_at ns os xs k o d h q =
     let w = stands_lead o.bytes xs k (d o h).0 (omega (arith, q.0), q.1) in
     (w.0, subst (Among ns) (sym w.1) (d o h).1)
@@ -56,6 +56,14 @@ none_longest os xs i e o h q = subst (Best os (behind_at xs i) (drop i xs)) e (l
 opened_none : (r : Option Opening) → opened r ≡ None → r ≡ None
 opened_none None e = refl
 opened_none (Some o) e = absurd (let z : ◌≡◌ {A = ℕ} 0 1 = cc in omega arith)
+
+-- nothing is found where nothing qualifies
+pub nowhere : (os : List Opening) (xs : List ℕ) (i : ℕ) → ((k : ℕ) → i ≤ k → NoneAt os xs k) → None ≡ found_from os xs i
+nowhere os xs i none = by (found_from os xs i) (found_finds os xs i)
+  where
+    by : (r : Option Triple) → Finds os xs i r → None ≡ r
+    by None w = refl
+    by (Some t) w = absurd (none (i + t.0) (omega arith) w.0.0 w.0.1 w.0.2)
 
 module _ (ns : List ℕ) (os : List Opening) (xs ys : List ℕ) (i j : ℕ) (led : Led ns os) (y : ys ≡ drop j xs) (clear : Clear os xs i j) where
   behind : (k : ℕ) → j ≤ k → HoldsAny ns xs k → HoldsAny ns ys (k - j)
@@ -69,14 +77,7 @@ module _ (ns : List ℕ) (os : List Opening) (xs ys : List ℕ) (i j : ℕ) (led
 
   -- nothing qualifies where none of the bytes is left
   pub clear_all : First (HoldsAny ns ys) None → None ≡ found_from os xs i
-  clear_all f = by (found_from os xs i) (found_finds os xs i)
-    where
-      none : (k : ℕ) → i ≤ k → NoneAt os xs k
-      none k l o p q = ⊎_elim (λ b. clear.1 k l b o p q) (λ b. f (k - j) (behind k b (lead_at ns os xs k o led p q))) (cases_lt k j)
-
-      by : (r : Option Triple) → Finds os xs i r → None ≡ r
-      by None w = refl
-      by (Some t) w = absurd (none (i + t.0) (omega arith) w.0.0 w.0.1 w.0.2)
+  clear_all f = nowhere os xs i (λ k l o p q. ⊎_elim (λ b. clear.1 k l b o p q) (λ b. f (k - j) (behind k b (lead_at ns os xs k o led p q))) (cases_lt k j))
 
 -- an opening at once
 abbrev at_once : Option (StartMarker × ℕ) → Option Triple

@@ -3,7 +3,8 @@ pub mod Braces
 pub mod Blanks
 pub mod Sorted
 pub mod Held
-pub mod Known
 pub mod Shifts
 pub mod Entries
 pub mod Same
+pub mod There
+pub mod Places

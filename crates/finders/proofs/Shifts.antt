@@ -5,7 +5,7 @@ use Rattle.std.proofs.lemmas.List.{take_more, set_at, take_at, drop-take, length
 use Rattle.finders.specs.declared.pattern.Pattern.{Pattern}
 use Rattle.finders.specs.Order.{entered, Falling, Place}
 use Rattle.finders.specs.Patterns.{opening_of, openings_of_first}
-use Rattle.finders.proofs.Held.{opening_length}
+use Rattle.syntax.specs.Delims.{bytes_of}
 use Rattle.finders.proofs.Sorted.{entered_at, entered_falling}
 
 module _ {X : Type 0} (ps : List X) (n i : ℕ) (p : X) (h : i ≤ n) (l : n < length ps) where
@@ -35,15 +35,15 @@ module _ {X : Type 0} (ps : List X) (n i : ℕ) (p : X) (h : i ≤ n) (l : n < l
       ∙ ap (λ t. take i (take n ps) ++ p ∷ t) (sym (drop-take i (n - i) ps) ∙ ap (λ m. drop i (take m ps)) z)
 
 -- the openings then
-pub shifted_openings : (ps : List Pattern) (n i : ℕ) (p : Pattern) → i ≤ n → n < length ps → Place (openings_of_first n ps) p.len i → openings_of_first (n + 1) (set (paste ps (i + 1) (drop i ps) (n - i)) i p) ≡ entered (opening_of p) (openings_of_first n ps)
+pub shifted_openings : (ps : List Pattern) (n i : ℕ) (p : Pattern) → i ≤ n → n < length ps → Place (openings_of_first n ps) (length (bytes_of p.delimiter)) i → openings_of_first (n + 1) (set (paste ps (i + 1) (drop i ps) (n - i)) i p) ≡ entered (opening_of p) (openings_of_first n ps)
 shifted_openings ps n i p h l w =
     ap (map opening_of) (shifted ps n i p h l)
     ∙ map-append opening_of (take i (take n ps)) (p ∷ drop i (take n ps))
     ∙ ap (λ t. t ++ opening_of p ∷ map opening_of (drop i (take n ps))) (sym (take-map opening_of i (take n ps)))
     ∙ ap (λ t. take i (openings_of_first n ps) ++ opening_of p ∷ t) (sym (drop-map opening_of i (take n ps)))
-    ∙ sym (entered_at (opening_of p) (openings_of_first n ps) i (subst (λ m. Place (openings_of_first n ps) m i) (sym (opening_length p)) w))
+    ∙ sym (entered_at (opening_of p) (openings_of_first n ps) i w)
 
-module _ (ps qs : List Pattern) (n i : ℕ) (p : Pattern) (e : qs ≡ paste ps (i + 1) (drop i ps) (n - i)) (h : i ≤ n) (l : n < length ps) (w : Place (openings_of_first n ps) p.len i) where
+module _ (ps qs : List Pattern) (n i : ℕ) (p : Pattern) (e : qs ≡ paste ps (i + 1) (drop i ps) (n - i)) (h : i ≤ n) (l : n < length ps) (w : Place (openings_of_first n ps) (length (bytes_of p.delimiter)) i) where
   pub entered_openings : openings_of_first (n + 1) (set qs i p) ≡ entered (opening_of p) (openings_of_first n ps)
   entered_openings = ap (λ t. openings_of_first (n + 1) (set t i p)) e ∙ shifted_openings ps n i p h l w
 

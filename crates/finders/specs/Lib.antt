@@ -1,5 +1,5 @@
 pub mod Defaults
-pub mod Known
+pub mod Spots
 pub mod Patterns
 pub mod Order
 pub mod Meant

@@ -3,12 +3,10 @@
 #![tactic(auto)]
 
 pub mod defaults;
-mod entering;
-mod line;
 pub mod matcher;
-pub mod matching;
 mod pattern;
 mod patterns;
+mod spot;
 
 pub use defaults::{DefaultFinder, find_start_marker_memchr};
 pub use matcher::StartMarkerMatcher;

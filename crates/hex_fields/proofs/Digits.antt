@@ -1,60 +1,55 @@
 -- Digits, and the bytes that they write.
-use Rattle.std.proofs.Common.{◌≡◌, ℕ, ◌+◌, ◌-◌, ◌<◌, ◌≤◌, List, [], ◌∷◌, ◌++◌, length, get_or, drop, IfSome, Some, None, Option, sym, refl, ap, ◌∙◌, subst, arith}
-use Rattle.std.proofs.lemmas.List.{append_assoc, append-nil, drop_more, drop_all}
-use Rattle.std.specs.Option.{SomeIff}
-use Rattle.std.specs.Char.{digit_value}
+use Rattle.std.proofs.Common.{◌≡◌, ℕ, zero, suc, ◌+◌, ◌*◌, ◌/◌, ◌%◌, ◌≢◌, ◌<◌, ◌≤◌, List, [], ◌∷◌, ◌++◌, length, get_or, drop, Some, None, Option, sym, refl, ap, ◌∙◌, arith}
+use Rattle.std.proofs.lemmas.List.{append-nil, drop_more, drop_all}
+use Rattle.std.specs.Simd.{first_chunks}
 use Rattle.escape.specs.Escapes.{hex_value}
-use Rattle.escape.proofs.Steps.{hex_digit, hex_none}
 use Rattle.hex_fields.specs.Hex.{byte_of, before, unhex}
-
-not_below : (a b : ℕ) → (a < b → ⊥) → b ≤ a
-not_below a b h = omega arith
-
-pub digit_is : (r : Option ℕ) (c : ℕ) → SomeIff r (digit_value c < 16) (digit_value c) → (r ≡ hex_value c) × IfSome r (λ d. d < 16)
-digit_is None c t = (sym (hex_none c (not_below (digit_value c) 16 t)), tt)
-digit_is (Some d) c t = (ap Some t.1 ∙ sym (hex_digit c t.0), subst (λ n. n < 16) (sym t.1) t.0)
 
 -- bytes before others
 abbrev pub joined : List ℕ → Option (List ℕ) → Option (List ℕ)
 joined bs None = None
 joined bs (Some ys) = Some (bs ++ ys)
 
+-- the bytes that pairs of digits write, none where one is no digit
+abbrev pub read_pairs : List (List ℕ) → Option (List ℕ)
+read_pairs [] = Some []
+read_pairs (p ∷ ps) = before (byte_of (hex_value (get_or p 0 0)) (hex_value (get_or p 1 0))) (read_pairs ps)
+
+-- digits are read pair by pair
+by_pairs : (k : ℕ) (xs : List ℕ) → length xs ≡ k * 2 → unhex xs ≡ read_pairs (first_chunks 2 k xs)
+unfolding unhex
+by_pairs zero [] e = refl
+by_pairs zero (x ∷ xs) e = absurd (omega arith)
+by_pairs (suc k) [] e = absurd (omega arith)
+by_pairs (suc k) (x ∷ []) e = absurd (omega arith)
+by_pairs (suc k) (h ∷ (l ∷ xs)) e = ap (before (byte_of (hex_value h) (hex_value l))) (by_pairs k xs (omega arith))
+
+before_none : (o : Option ℕ) → before o None ≡ None
+before_none None = refl
+before_none (Some b) = refl
+
+one_too_many : (k : ℕ) (xs : List ℕ) → length xs ≡ k * 2 + 1 → unhex xs ≡ None
+unfolding unhex
+one_too_many k [] e = absurd (omega arith)
+one_too_many k (x ∷ []) e = refl
+one_too_many zero (h ∷ (l ∷ xs)) e = absurd (omega arith)
+one_too_many (suc k) (h ∷ (l ∷ xs)) e = ap (before (byte_of (hex_value h) (hex_value l))) (one_too_many k xs (omega arith)) ∙ before_none (byte_of (hex_value h) (hex_value l))
+
+pub read_even : (xs : List ℕ) → length xs % 2 ≡ 0 → unhex xs ≡ read_pairs (first_chunks 2 (length xs / 2) xs)
+read_even xs e = by_pairs (length xs / 2) xs (omega arith)
+
+pub read_odd : (xs : List ℕ) → length xs % 2 ≢ 0 → unhex xs ≡ None
+read_odd xs e = one_too_many (length xs / 2) xs (omega arith)
+
 -- what was read, with what is still to read, is the whole
-abbrev pub Reading : List ℕ → ℕ → List ℕ → Type 0
-Reading xs i bs = unhex xs ≡ joined bs (unhex (drop i xs))
+abbrev pub Reading : List (List ℕ) → ℕ → List ℕ → Type 0
+Reading ps i bs = read_pairs ps ≡ joined bs (read_pairs (drop i ps))
 
-pub reading_none : (xs : List ℕ) → Reading xs 0 []
-reading_none xs = by (unhex xs)
-  where
-    by : (o : Option (List ℕ)) → o ≡ joined [] o
-    by None = refl
-    by (Some ys) = refl
+pub reading_bad : (ps : List (List ℕ)) (i : ℕ) (bs : List ℕ) → i < length ps → None ≡ byte_of (hex_value (get_or (get_or ps i []) 0 0)) (hex_value (get_or (get_or ps i []) 1 0)) → Reading ps i bs → read_pairs ps ≡ None
+reading_bad ps i bs h e r = r ∙ ap (λ l. joined bs (read_pairs l)) (drop_more ps i [] h) ∙ ap (λ o. joined bs (before o (read_pairs (drop (i + 1) ps)))) (sym e)
 
--- two digits more
-two : (xs : List ℕ) (i : ℕ) → i + 2 ≤ length xs → unhex (drop i xs) ≡ before (byte_of (hex_value (get_or xs i 0)) (hex_value (get_or xs (i + 1) 0))) (unhex (drop (i + 2) xs))
-unfolding unhex
-two xs i h =
-    let z : i + 1 + 1 ≡ i + 2 = omega arith in
-    ap unhex (drop_more xs i 0 (omega arith) ∙ ap (λ l. get_or xs i 0 ∷ l) (drop_more xs (i + 1) 0 (omega arith) ∙ ap (λ n. get_or xs (i + 1) 0 ∷ drop n xs) z))
-
-join_one : (bs : List ℕ) (b : ℕ) (o : Option (List ℕ)) → joined bs (before (Some b) o) ≡ joined (bs ++ b ∷ []) o
-join_one bs b None = refl
-join_one bs b (Some ys) = ap Some (sym (append_assoc bs (b ∷ []) ys))
-
-pub reading_more : (xs : List ℕ) (i : ℕ) (bs cs : List ℕ) (b : ℕ) → i + 2 ≤ length xs → Some b ≡ byte_of (hex_value (get_or xs i 0)) (hex_value (get_or xs (i + 1) 0)) → cs ≡ bs ++ b ∷ [] → Reading xs i bs → Reading xs (i + 2) cs
-reading_more xs i bs cs b h e c r =
-    r ∙ ap (joined bs) (two xs i h ∙ ap (λ o. before o (unhex (drop (i + 2) xs))) (sym e)) ∙ join_one bs b (unhex (drop (i + 2) xs)) ∙ ap (λ l. joined l (unhex (drop (i + 2) xs))) (sym c)
-
-pub reading_bad : (xs : List ℕ) (i : ℕ) (bs : List ℕ) → i + 2 ≤ length xs → None ≡ byte_of (hex_value (get_or xs i 0)) (hex_value (get_or xs (i + 1) 0)) → Reading xs i bs → unhex xs ≡ None
-reading_bad xs i bs h e r = r ∙ ap (joined bs) (two xs i h ∙ ap (λ o. before o (unhex (drop (i + 2) xs))) (sym e))
-
-pub reading_odd : (xs : List ℕ) (i : ℕ) (bs : List ℕ) → i < length xs → length xs - i < 2 → Reading xs i bs → unhex xs ≡ None
-unfolding unhex
-reading_odd xs i bs h l r = r ∙ ap (λ ys. joined bs (unhex ys)) (drop_more xs i 0 h ∙ ap (λ ys. get_or xs i 0 ∷ ys) (drop_all (i + 1) xs (omega arith)))
-
-pub reading_all : (xs : List ℕ) (i : ℕ) (bs : List ℕ) → length xs ≤ i → Reading xs i bs → unhex xs ≡ Some bs
-unfolding unhex
-reading_all xs i bs h r = r ∙ ap (λ ys. joined bs (unhex ys)) (drop_all i xs h) ∙ ap Some (append-nil bs)
+pub reading_all : (ps : List (List ℕ)) (i : ℕ) (bs : List ℕ) → length ps ≤ i → Reading ps i bs → read_pairs ps ≡ Some bs
+reading_all ps i bs h r = r ∙ ap (λ l. joined bs (read_pairs l)) (drop_all i ps h) ∙ ap Some (append-nil bs)
 
 pub one_byte : (xs : List ℕ) (b : ℕ) → length xs ≡ 1 → get_or xs 0 0 ≡ b → xs ≡ b ∷ []
 one_byte [] b l e = absurd (omega arith)

@@ -28,7 +28,7 @@ impl fmt::Display for Hex<'_> {
 }
 
 // Why hexadecimal digits are not read.
-#[derive(Clone, Copy, Debug)]
+#[derive(Clone, Copy, Debug, PartialEq, Eq)]
 pub enum HexError {
     // a character that is no digit, or one digit too many
     NotHex,
@@ -63,6 +63,7 @@ impl<T: Drop> From<AllocFailed<T>> for HexError {
 }
 
 // The value of a digit.
+#[tactic(auto, using(escape::proofs::Steps::hex_digit, escape::proofs::Steps::hex_none))]
 fn digit(b: u8) -> Option<u32>
     ensures value { result ≡ hex_value b }
     ensures below { IfSome result (λ d. d < 16) }
@@ -74,32 +75,27 @@ fn digit(b: u8) -> Option<u32>
 fn byte(high: u8, low: u8) -> Option<u8>
     ensures { result ≡ byte_of (hex_value high) (hex_value low) }
 {
-    match (digit(high), digit(low)) {
-        (Some(high), Some(low)) => Some((high * 16 + low) as u8),
-        _ => None,
-    }
+    Some((digit(high)? * 16 + digit(low)?) as u8)
 }
 
 // The bytes that digits write.
+#[tactic(auto, using(crate::proofs::Digits::read_even, crate::proofs::Digits::read_odd))]
 pub fn from_hex(heap: Global, text: &[u8]) -> Result<Vec<u8>, HexError>
     ensures { Read result text.now }
 {
+    let (pairs, odd) = text.as_chunks::<2>();
+    if !odd.is_empty() {
+        return Err(HexError::NotHex);
+    }
     let mut bytes = Vec::new(heap);
-    let mut at = 0;
-    while at < text.len() {
-        if text.len() - at < 2 {
-            return Err(HexError::NotHex);
-        }
-        let Some(b) = byte(text[at], text[at + 1]) else {
-            return Err(HexError::NotHex);
-        };
-        bytes.push(b)?;
-        at += 2;
+    for [high, low] in pairs {
+        bytes.push(byte(*high, *low).ok_or(HexError::NotHex)?)?;
     }
     Ok(bytes)
 }
 
 // The bytes of a field: what its digits write, or none where it is a dash.
+#[tactic(auto, using(crate::proofs::Digits::one_byte))]
 pub fn field(heap: Global, text: &[u8]) -> Result<Vec<u8>, HexError>
     ensures { ReadField result text.now }
 {

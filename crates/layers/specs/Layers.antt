@@ -1,5 +1,7 @@
 -- What layers make of the meaning of the stream below: of its items and its ending.
-use Rattle.std.specs.Prelude.{◌≡◌, ℕ, ◌+◌, ◌<◌, min, Bool, true, false, List, [], ◌∷◌, length, Some, None, Option, ◌==◌, slice_index_or}
+use Rattle.std.specs.Prelude.{◌≡◌, ℕ, ◌+◌, ◌<◌, min, Bool, true, false, not, List, [], ◌∷◌, length, map, Some, None, Option, Ok, Err, ◌==◌, slice_index_or}
+use Rattle.std.specs.List.{filter}
+use Rattle.std.specs.Option.{option_or}
 use Rattle.places.specs.declared.Place.{Place}
 use Rattle.places.specs.declared.Span.{Span}
 use Rattle.places.specs.Places.{line_cap, column_cap, offset_cap}
@@ -7,13 +9,11 @@ use Rattle.pieces.specs.declared.piece.TextRange.{TextRange}
 use Rattle.pieces.specs.declared.piece.Piece.{Piece}
 use Rattle.pieces.specs.declared.fault.ReadFault.{ReadFault}
 use Rattle.pieces.specs.Kinds.{is_gap}
-use Rattle.stream.specs.declared.answer.Ending.{Ending}
-use Rattle.stream.specs.declared.answer.Ending.TheVariants.{Finished, Failed}
+use Rattle.stream.specs.Told.{Ending}
 
 -- the items that are no gaps, in their order
-unfoldable pub drop_gaps : {I : Type 0} → (I → Bool) → List I → List I
-drop_gaps gap [] = []
-drop_gaps gap (x ∷ xs) = elim (gap x) [ true ↦ drop_gaps gap xs | false ↦ x ∷ drop_gaps gap xs ]
+abbrev pub drop_gaps : {I : Type 0} → (I → Bool) → List I → List I
+drop_gaps gap xs = filter (λ x. not (gap x)) xs
 
 -- in words: the items told stand below at rising places, and these are exactly the places whose items are no gaps
 pub record Drops {I : Type 0} (gap : I → Bool) (xs ys : List I) : Type 0 where
@@ -35,18 +35,13 @@ fault_line f = f.span.start.line
 
 -- the line of the ending's fault; a finished stream has none
 abbrev pub end_line : {F : Type 0} → (F → ℕ) → Ending F → Option ℕ
-end_line line Finished = None
-end_line line (Failed f) = Some (line f)
+end_line line (Ok t) = None
+end_line line (Err f) = Some (line f)
 
--- the line number where the first item begins, and with none the ending
-abbrev pub first_line : {I E : Type 0} → (I → ℕ) → (E → Option ℕ) → List I → E → Option ℕ
-first_line line last [] e = last e
+-- the line number where the first item begins, and with none the ending's fault
+abbrev pub first_line : {I F : Type 0} → (I → ℕ) → (F → ℕ) → List I → Ending F → Option ℕ
+first_line line last [] e = end_line last e
 first_line line last (x ∷ xs) e = Some (line x)
-
--- the line noted already, and with none another
-abbrev pub noted : Option ℕ → Option ℕ → Option ℕ
-noted None o = o
-noted (Some n) o = Some n
 
 -- the line is the first line
 abbrev pub on_first : Option ℕ → ℕ → Bool
@@ -88,20 +83,15 @@ shift_fault base first f = record { kind = f.kind; span = shift_span base first 
 
 -- an ending's fault
 abbrev pub shift_end : {F : Type 0} → (Place → Option ℕ → F → F) → Place → Option ℕ → Ending F → Ending F
-shift_end shifted base first Finished = Finished
-shift_end shifted base first (Failed f) = Failed (shifted base first f)
+shift_end shifted base first (Ok t) = Ok t
+shift_end shifted base first (Err f) = Err (shifted base first f)
 
--- each item of a list
-unfoldable pub shift_items : {I : Type 0} → (Place → Option ℕ → I → I) → Place → Option ℕ → List I → List I
-shift_items shifted base first [] = []
-shift_items shifted base first (x ∷ xs) = shifted base first x ∷ shift_items shifted base first xs
+-- a shift of the items and the ending below, where a line may be noted already: the line noted stays, and with none it is the first
+abbrev pub shifted_items : {I F : Type 0} → (I → ℕ) → (F → ℕ) → (Place → Option ℕ → I → I) → Place → Option ℕ → List I → Ending F → List I
+shifted_items line last shifted base first xs e = map (shifted base (option_or first (first_line line last xs e))) xs
 
--- a shift of the items and the ending below, where a line may be noted already
-abbrev pub shifted_items : {I E : Type 0} → (I → ℕ) → (E → Option ℕ) → (Place → Option ℕ → I → I) → Place → Option ℕ → List I → E → List I
-shifted_items line last shifted base first xs e = shift_items shifted base (noted first (first_line line last xs e)) xs
-
-abbrev pub shifted_ending : {I E : Type 0} → (I → ℕ) → (E → Option ℕ) → (Place → Option ℕ → E → E) → Place → Option ℕ → List I → E → E
-shifted_ending line last shifted base first xs e = shifted base (noted first (first_line line last xs e)) e
+abbrev pub shifted_ending : {I F : Type 0} → (I → ℕ) → (F → ℕ) → (Place → Option ℕ → F → F) → Place → Option ℕ → List I → Ending F → Ending F
+shifted_ending line last shifted base first xs e = shift_end shifted base (option_or first (first_line line last xs e)) e
 
 -- in words: as many items, each the one below at its place, shifted
 pub record Shifts {I : Type 0} (shifted : Place → Option ℕ → I → I) (base : Place) (first : Option ℕ) (xs ys : List I) : Type 0 where

@@ -2,14 +2,14 @@
 
 #![tactic(auto)]
 
+pub mod base;
 pub mod fault;
 pub mod parts;
 pub mod piece;
 pub mod shift;
-pub mod span;
 pub mod tokens;
 
-pub use parts::{Ends, Gap, Placed};
+pub use base::Base;
+pub use parts::{Gap, Placed};
 pub use shift::Shift;
-pub use span::{shift_place, shift_span};
 pub use tokens::Tokens;

@@ -1,8 +1,8 @@
-// What a layer asks of items and endings.
+// What a layer asks of items and faults.
 ghost use Rattle.std.specs.Prelude.{◌≡◌, ℕ, Bool, Option};
 ghost use Rattle.places.specs.declared.Place.{Place};
 
-use places::Place;
+use super::base::Base;
 
 // An item that may be a gap.
 pub trait Gap {
@@ -23,22 +23,7 @@ pub trait Placed: Sized {
     fn line(&self) -> u16
         ensures { result ≡ line self.now };
 
-    // The same with the base added to its places; columns move at the first line only.
-    fn shift(self, base: Place, first: Option<u16>) -> Self
-        ensures { result ≡ shifted base first self };
-}
-
-// An ending that may hold a fault.
-pub trait Ends: Sized {
-    ghost line: { Self → Option ℕ };
-
-    ghost shifted: { Place → Option ℕ → Self → Self };
-
-    // The line on which its fault begins.
-    fn line(&self) -> Option<u16>
-        ensures { result ≡ line self.now };
-
-    // The same with its fault shifted.
-    fn shift(self, base: Place, first: Option<u16>) -> Self
-        ensures { result ≡ shifted base first self };
+    // The same with the base added to its places.
+    fn shift(self, base: Base) -> Self
+        ensures { result ≡ shifted base.place base.first self };
 }

@@ -1,10 +1,9 @@
 // Pieces as items of layers.
 ghost use Rattle.layers.specs.Layers.{piece_gap, piece_line, shift_piece};
 
+use super::base::Base;
 use super::parts::{Gap, Placed};
-use super::span::shift_span;
-use pieces::{Piece, TextRange};
-use places::Place;
+use pieces::Piece;
 
 impl Gap for Piece {
     ghost gap = { piece_gap };
@@ -23,13 +22,10 @@ impl Placed for Piece {
         self.span.start.line
     }
 
-    fn shift(self, base: Place, first: Option<u16>) -> Piece {
+    fn shift(self, base: Base) -> Piece {
         Piece {
-            span: shift_span(self.span, base, first),
-            text: TextRange {
-                start: self.text.start.saturating_add(base.offset),
-                end: self.text.end.saturating_add(base.offset),
-            },
+            span: base.shift_span(self.span),
+            text: base.shift_range(self.text),
             ..self
         }
     }

@@ -1,38 +1,41 @@
 // The layer that adds a base to places.
-ghost use Rattle.std.specs.Prelude.{◌≡◌, List, None};
+ghost use Rattle.std.specs.Prelude.{◌≡◌, List, Some, None};
+ghost use Rattle.std.specs.Option.{option_or};
 ghost use Rattle.finder.specs.Finding.{Opening};
-ghost use Rattle.layers.specs.Layers.{first_line, noted, shifted_items, shifted_ending, Shifts};
+ghost use Rattle.layers.specs.Layers.{first_line, shifted_items, shifted_ending, Shifts};
 
-use super::parts::{Ends, Placed};
+use super::base::Base;
+use super::parts::Placed;
 use finder::Finder;
 use places::Place;
-use stream::{Answer, Stream};
+use stream::Stream;
 
-// Any stream with a base added to its places, and the line where the first item or fault that it took begins.
+// Any stream with a base added to its places; its first line is where the first item or fault that it took begins.
 #[derive(Drop)]
 pub struct Shift<S> {
     below: S,
-    base: Place,
-    first: Option<u16>,
+    base: Base,
 }
 
 impl<S: Stream> Shift<S>
 where
     S::Item: Placed,
-    S::Ending: Ends,
+    S::Fault: Placed,
 {
     // The layer over a stream; no line is noted yet.
     pub fn new(below: S, base: Place) -> Shift<S>
-        ensures items { shifted_items S.Item.Placed.line S.Ending.Ends.line S.Item.Placed.shifted result.base result.first (S.Stream.items result.below) (S.Stream.ending result.below) ≡ shifted_items S.Item.Placed.line S.Ending.Ends.line S.Item.Placed.shifted base None (S.Stream.items below) (S.Stream.ending below) }
-        ensures ending { shifted_ending S.Item.Placed.line S.Ending.Ends.line S.Ending.Ends.shifted result.base result.first (S.Stream.items result.below) (S.Stream.ending result.below) ≡ shifted_ending S.Item.Placed.line S.Ending.Ends.line S.Ending.Ends.shifted base None (S.Stream.items below) (S.Stream.ending below) }
+        ensures items { shifted_items S.Item.Placed.line S.Fault.Placed.line S.Item.Placed.shifted result.base.place result.base.first (S.Stream.items result.below) (S.Stream.ending result.below) ≡ shifted_items S.Item.Placed.line S.Fault.Placed.line S.Item.Placed.shifted base None (S.Stream.items below) (S.Stream.ending below) }
+        ensures ending { shifted_ending S.Item.Placed.line S.Fault.Placed.line S.Fault.Placed.shifted result.base.place result.base.first (S.Stream.items result.below) (S.Stream.ending result.below) ≡ shifted_ending S.Item.Placed.line S.Fault.Placed.line S.Fault.Placed.shifted base None (S.Stream.items below) (S.Stream.ending below) }
         ensures serves { (os : List Opening) → S.Stream.serves below os → S.Stream.serves result.below os }
         ensures left { S.Stream.left result.below ≡ S.Stream.left below }
-        ensures shifts { Shifts S.Item.Placed.shifted base (first_line S.Item.Placed.line S.Ending.Ends.line (S.Stream.items below) (S.Stream.ending below)) (S.Stream.items below) (shifted_items S.Item.Placed.line S.Ending.Ends.line S.Item.Placed.shifted result.base result.first (S.Stream.items result.below) (S.Stream.ending result.below)) }
+        ensures shifts { Shifts S.Item.Placed.shifted base (first_line S.Item.Placed.line S.Fault.Placed.line (S.Stream.items below) (S.Stream.ending below)) (S.Stream.items below) (shifted_items S.Item.Placed.line S.Fault.Placed.line S.Item.Placed.shifted result.base.place result.base.first (S.Stream.items result.below) (S.Stream.ending result.below)) }
     {
         Shift {
             below,
-            base,
-            first: None,
+            base: Base {
+                place: base,
+                first: None,
+            },
         }
     }
 
@@ -47,52 +50,43 @@ where
     pub fn into_below(self) -> S
         ensures { result ≡ self.below }
     {
-        let Shift {
-            below,
-            base: _,
-            first: _,
-        } = self;
-        below
+        self.below
     }
-}
 
-// A line noted already, and with none another.
-fn note(first: Option<u16>, line: Option<u16>) -> Option<u16>
-    ensures { result ≡ noted first line }
-{
-    match first {
-        Some(line) => Some(line),
-        None => line,
+    // What stands below, shifted; its line is noted where none is.
+    fn shifted<T: Placed>(&mut self, x: T) -> T
+        ensures value { result ≡ T.Placed.shifted self.new.base.place self.new.base.first x }
+        ensures place { self.new.base.place ≡ self.old.base.place }
+        ensures first { self.new.base.first ≡ option_or self.old.base.first (Some (T.Placed.line x)) }
+        ensures below { self.new.below ≡ self.old.below }
+    {
+        self.base.first = self.base.first.or(Some(x.line()));
+        x.shift(self.base)
     }
 }
 
 impl<S: Stream> Stream for Shift<S>
 where
     S::Item: Placed,
-    S::Ending: Ends,
+    S::Fault: Placed,
 {
     type Item = S::Item;
 
-    type Ending = S::Ending;
+    type Fault = S::Fault;
 
-    ghost items = { λ a. shifted_items S.Item.Placed.line S.Ending.Ends.line S.Item.Placed.shifted a.base a.first (S.Stream.items a.below) (S.Stream.ending a.below) };
+    ghost items = { λ a. shifted_items S.Item.Placed.line S.Fault.Placed.line S.Item.Placed.shifted a.base.place a.base.first (S.Stream.items a.below) (S.Stream.ending a.below) };
 
-    ghost ending = { λ a. shifted_ending S.Item.Placed.line S.Ending.Ends.line S.Ending.Ends.shifted a.base a.first (S.Stream.items a.below) (S.Stream.ending a.below) };
+    ghost ending = { λ a. shifted_ending S.Item.Placed.line S.Fault.Placed.line S.Fault.Placed.shifted a.base.place a.base.first (S.Stream.items a.below) (S.Stream.ending a.below) };
 
     ghost serves = { λ a os. S.Stream.serves a.below os };
 
     ghost left = { λ a. S.Stream.left a.below };
 
-    fn next<F: Finder>(&mut self, finder: &F) -> Answer<S::Item, S::Ending> {
+    fn next<F: Finder>(&mut self, finder: &F) -> Result<Option<S::Item>, S::Fault> {
         match self.below.next(finder) {
-            Answer::Item(x) => {
-                self.first = note(self.first, Some(x.line()));
-                Answer::Item(x.shift(self.base, self.first))
-            }
-            Answer::End(e) => {
-                self.first = note(self.first, e.line());
-                Answer::End(e.shift(self.base, self.first))
-            }
+            Ok(Some(x)) => Ok(Some(self.shifted(x))),
+            Ok(None) => Ok(None),
+            Err(fault) => Err(self.shifted(fault)),
         }
     }
 }

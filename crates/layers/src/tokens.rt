@@ -5,7 +5,7 @@ ghost use Rattle.layers.specs.Layers.{drop_gaps, Drops};
 
 use super::parts::Gap;
 use finder::Finder;
-use stream::{Answer, Stream};
+use stream::Stream;
 
 // Any stream without its gaps.
 #[derive(Drop)]
@@ -18,6 +18,7 @@ where
     S::Item: Gap,
 {
     // The layer over a stream.
+    #[tactic(auto, using(crate::proofs::Dropped::gaps_drops))]
     pub fn new(below: S) -> Tokens<S>
         ensures items { drop_gaps S.Item.Gap.gap (S.Stream.items result.below) ≡ drop_gaps S.Item.Gap.gap (S.Stream.items below) }
         ensures ending { S.Stream.ending result.below ≡ S.Stream.ending below }
@@ -27,6 +28,8 @@ where
     {
         Tokens { below }
     }
+
+    // Shift has these two as well: a trait of both would only repeat the bodies in its impls.
 
     // The stream below, as it is now.
     pub fn below(&self) -> &S
@@ -39,8 +42,7 @@ where
     pub fn into_below(self) -> S
         ensures { result ≡ self.below }
     {
-        let Tokens { below } = self;
-        below
+        self.below
     }
 }
 
@@ -50,7 +52,7 @@ where
 {
     type Item = S::Item;
 
-    type Ending = S::Ending;
+    type Fault = S::Fault;
 
     ghost items = { λ t. drop_gaps S.Item.Gap.gap (S.Stream.items t.below) };
 
@@ -60,16 +62,12 @@ where
 
     ghost left = { λ t. S.Stream.left t.below };
 
-    fn next<F: Finder>(&mut self, finder: &F) -> Answer<S::Item, S::Ending> {
-        loop {
-            match self.below.next(finder) {
-                Answer::Item(x) => {
-                    if !x.is_gap() {
-                        return Answer::Item(x);
-                    }
-                }
-                Answer::End(e) => return Answer::End(e),
+    fn next<F: Finder>(&mut self, finder: &F) -> Result<Option<S::Item>, S::Fault> {
+        while let Some(x) = self.below.next(finder)? {
+            if !x.is_gap() {
+                return Ok(Some(x));
             }
         }
+        Ok(None)
     }
 }

@@ -4,108 +4,78 @@
 
 #![tactic(auto)]
 
-use anyhow::anyhow;
+use anyhow::Context;
 use finder::{Finder, StartMarker};
 use finders::{DefaultFinder, StartMarkerMatcher};
 use hex_fields::field;
+use std::io;
 use std::io::Read;
 use syntax::{DelimiterName, Draft, Settings, SyntaxFault};
-
-const NAMES: [DelimiterName; 8] = [
-    DelimiterName::BlockStart,
-    DelimiterName::BlockEnd,
-    DelimiterName::VariableStart,
-    DelimiterName::VariableEnd,
-    DelimiterName::CommentStart,
-    DelimiterName::CommentEnd,
-    DelimiterName::LineStatementPrefix,
-    DelimiterName::LineCommentPrefix,
-];
 
 // The default delimiters as fields; these have a finder of their own.
 const DEFAULTS: &str = "7b25 257d 7b7b 7d7d 7b23 237d - - ";
 
-// The first field of a line, and what follows it.
-fn split(line: &str) -> anyhow::Result<(&str, &str)> {
-    match line.split_once(' ') {
-        Some(parts) => Ok(parts),
-        None => Err(anyhow!("a field is missing")),
-    }
-}
-
 // Prints what was found.
-fn show(rt: &HostRuntime, found: Option<(usize, StartMarker, usize)>) -> anyhow::Result<()> {
-    let Some((distance, marker, len)) = found else {
-        println!(rt; "none")?;
-        return Ok(());
-    };
-    let name = marker.name();
-    println!(rt; "{distance} {name} {len}")?;
-    Ok(())
+fn show(rt: &impl Print, found: Option<(usize, StartMarker, usize)>) -> io::Result<()> {
+    match found {
+        Some((distance, marker, len)) => println!(rt; "{distance} {marker} {len}"),
+        None => println!(rt; "none"),
+    }
 }
 
 // Prints why there are no settings.
-fn show_refusal(rt: &HostRuntime, fault: SyntaxFault) -> anyhow::Result<()> {
-    let (number, which) = (fault.number(), fault.which().name());
+fn show_refusal(rt: &impl Print, fault: SyntaxFault) -> io::Result<()> {
+    let (number, which) = (fault.number(), fault.which());
     match fault.byte() {
-        Some(byte) => println!(rt; "refused {number} {which} {byte}")?,
-        None => println!(rt; "refused {number} {which}")?,
+        Some(byte) => println!(rt; "refused {number} {which} {byte}"),
+        None => println!(rt; "refused {number} {which}"),
+    }
+}
+
+// Prints what the matcher of the settings finds; a second finder has to find the same.
+fn seek<F: Finder + Drop>(
+    rt: &impl Print,
+    settings: &Settings,
+    other: Option<F>,
+    source: &[u8],
+    offset: usize,
+) -> io::Result<()> {
+    let found = StartMarkerMatcher::new(settings).find(source, offset);
+    match other {
+        Some(finder) if finder.find(source, offset) != found => println!(rt; "finders differ"),
+        _ => show(rt, found),
+    }
+}
+
+// Answers one line.
+fn answer(rt: &(impl AllocGlobal + Print), line: &str) -> anyhow::Result<()> {
+    let mut draft = Draft::new();
+    let mut fields = line.splitn(10, ' ');
+    for which in DelimiterName::ALL {
+        let text = fields.next().context("a field is missing")?;
+        let bytes = field(rt.alloc(), text.as_bytes())?;
+        if let Err(fault) = draft.set_delimiter(which, bytes.as_slice()) {
+            show_refusal(rt, fault)?;
+            return Ok(());
+        }
+    }
+    let text = fields.next().context("a field is missing")?;
+    let source = field(rt.alloc(), text.as_bytes())?;
+    let offset = fields
+        .next()
+        .context("a field is missing")?
+        .parse::<usize>()?;
+    let default = line.starts_with(DEFAULTS).then_some(DefaultFinder);
+    match draft.build() {
+        Ok(settings) => seek(rt, &settings, default, source.as_slice(), offset)?,
+        Err(fault) => show_refusal(rt, fault)?,
     }
     Ok(())
 }
 
-// Whether two finds are the same.
-fn same(a: Option<(usize, StartMarker, usize)>, b: Option<(usize, StartMarker, usize)>) -> bool {
-    match (a, b) {
-        (Some((distance, marker, len)), Some((far, other, size))) => {
-            distance == far && len == size && marker.name() == other.name()
-        }
-        (None, None) => true,
-        _ => false,
-    }
-}
-
-// Prints what the finders of the settings find: for the default delimiters there are two.
-fn seek(
-    rt: &HostRuntime,
-    settings: Settings,
-    default: bool,
-    source: &[u8],
-    offset: usize,
-) -> anyhow::Result<()> {
-    let found = StartMarkerMatcher::new(&settings).find(source, offset);
-    if default && !same(found, DefaultFinder.find(source, offset)) {
-        println!(rt; "finders differ")?;
-        return Ok(());
-    }
-    show(rt, found)
-}
-
-// Answers one line.
-fn answer(rt: &HostRuntime, line: &str) -> anyhow::Result<()> {
-    let mut draft = Draft::new();
-    let mut rest = line;
-    for which in NAMES {
-        let (text, more) = split(rest)?;
-        let bytes = field(rt.alloc(), text.as_bytes())?;
-        if let Err(fault) = draft.set_delimiter(which, bytes.as_slice()) {
-            return show_refusal(rt, fault);
-        }
-        rest = more;
-    }
-    let (text, number) = split(rest)?;
-    let source = field(rt.alloc(), text.as_bytes())?;
-    let offset = number.parse::<usize>()?;
-    let default = line.starts_with(DEFAULTS);
-    match draft.build() {
-        Ok(settings) => seek(rt, settings, default, source.as_slice(), offset),
-        Err(fault) => show_refusal(rt, fault),
-    }
-}
-
-fn run(rt: &HostRuntime) -> anyhow::Result<()> {
+fn run(rt: &(impl AllocGlobal + Input + Print)) -> anyhow::Result<()> {
     let mut input = Vec::new(rt.alloc());
-    rt.stdin().read_to_end(&mut input)?;
+    rt.reader().read_to_end(&mut input)?;
     for line in std::str::from_utf8(input.as_slice())?.lines() {
         answer(rt, line)?;
     }

@@ -2,6 +2,8 @@
 use Rattle.std.proofs.Common.{◌≡◌, ℕ, zero, suc, ◌+◌, ◌*◌, ◌^◌, ◌<◌, ◌≤◌, true, false, cond, not, ltb, List, [], ◌∷◌, length, get_or, drop, Some, None, Option, sym, refl, ap, ◌∙◌, subst, inl, inr, ⊎_elim, lt_of_lt_of_le, le-mul_of_pos_right, arith}
 use Rattle.std.proofs.lemmas.List.{drop_more, drop_all}
 use Rattle.std.proofs.lemmas.Bool.{cases_eq, cases_lt, eq-eqb, ne_eqb, lt-ltb, le-ltb}
+use Rattle.std.proofs.lemmas.Bool.Decides.{nat_tests}
+use Rattle.std.proofs.lemmas.Grind.{common_steps}
 use Rattle.std.specs.Option.{SomeIff}
 use Rattle.std.specs.Str.Parse.{digits_value_after}
 use Rattle.std.specs.Char.{digit_value}
@@ -9,33 +11,6 @@ use Rattle.escape.specs.Escapes.{hex_value}
 use Rattle.escape.proofs.Steps.{hex_digit, hex_none}
 use Rattle.rules.specs.Numbers.{digit_of, value_from, value_of}
 use Rattle.numbers.specs.Written.{below128, Readable, bare, Written}
-
--- a digit of 16 is one of the base where it is below it
-abbrev under : ℕ → Option ℕ → Option ℕ
-under base None = None
-under base (Some d) = elim (ltb d base) [ true ↦ Some d | false ↦ None ]
-
-under_is : (base : ℕ) (o : Option ℕ) → elim o as (λ x. Option ℕ) [ None ↦ None | Some d ↦ elim (ltb d base) [ true ↦ Some d | false ↦ None ] ] ≡ under base o
-under_is base None = refl
-under_is base (Some d) = refl
-
-digit_under : (base x : ℕ) (o : Option ℕ) → hex_value x ≡ o → digit_of base x ≡ under base o
-digit_under base x o e = under_is base (hex_value x) ∙ ap (under base) e
-
-under_below : (base d : ℕ) → d < base → under base (Some d) ≡ Some d
-under_below base d h = ap (λ t. elim t as (λ x. Option ℕ) [ true ↦ Some d | false ↦ None ]) (lt-ltb d base h)
-
-under_above : (base d : ℕ) → base ≤ d → under base (Some d) ≡ None
-under_above base d h = ap (λ t. elim t as (λ x. Option ℕ) [ true ↦ Some d | false ↦ None ]) (le-ltb d base h)
-
-pub digit_below : (base x d : ℕ) → hex_value x ≡ Some d → d < base → Some d ≡ digit_of base x
-digit_below base x d e h = sym (digit_under base x (Some d) e ∙ under_below base d h)
-
-pub digit_above : (base x d : ℕ) → hex_value x ≡ Some d → base ≤ d → None ≡ digit_of base x
-digit_above base x d e h = sym (digit_under base x (Some d) e ∙ under_above base d h)
-
-pub digit_none : (base x : ℕ) → hex_value x ≡ None → None ≡ digit_of base x
-digit_none base x e = sym (digit_under base x None e)
 
 not_below : (a b : ℕ) → (a < b → ⊥) → b ≤ a
 not_below a b h = omega arith
@@ -77,9 +52,13 @@ over base b (x ∷ xs) acc h =
     (λ n. over_by base acc x xs (over base b xs) b h n (digit_of base x) refl)
     (cases_eq x 95)
 
-positive : (base d : ℕ) (o : Option ℕ) → under base o ≡ Some d → 0 < base
-positive base d None e = let z : ◌≡◌ {A = ℕ} 0 1 = cc in omega arith
-positive base d (Some n) e = ⊎_elim (λ h. omega arith) (λ h. let f : under base (Some n) ≡ None = under_above base n h in let z : ◌≡◌ {A = ℕ} 0 1 = cc in omega arith) (cases_lt n base)
+-- a base that has a digit
+positive_by : (base d : ℕ) (o : Option ℕ) → elim o as (λ x. Option ℕ) [ None ↦ None | Some n ↦ elim (ltb n base) [ true ↦ Some n | false ↦ None ] ] ≡ Some d → 0 < base
+positive_by base d None e = grind (arith, common_steps)
+positive_by base d (Some n) e = grind (arith, common_steps, nat_tests)
+
+positive : (base x d : ℕ) → digit_of base x ≡ Some d → 0 < base
+positive base x d e = positive_by base d (hex_value x) e
 
 value_some : (base : ℕ) (s : List ℕ) → 0 < length s → value_of base s ≡ value_from base 0 s
 value_some base [] h = absurd (omega arith)
@@ -101,7 +80,7 @@ module _ (base : ℕ) (s : List ℕ) (i acc : ℕ) (h : i < length s) (w : Walke
 
   pub walked_over : (d : ℕ) → (get_or s i 0 ≡ 95 → ⊥) → Some d ≡ digit_of base (get_or s i 0) → (acc * base + d < 2 ^ 128 → ⊥) → None ≡ below128 (value_of base s)
   walked_over d n e l =
-      let b = positive base d (hex_value (get_or s i 0)) (sym (under_is base (hex_value (get_or s i 0))) ∙ sym e) in
+      let b = positive base (get_or s i 0) d (sym e) in
       sym (ap below128 (value_some base s (omega arith) ∙ walked_digit n (Some d) e) ∙ over base b (drop (i + 1) s) (acc * base + d) (omega arith))
 
   pub walked_more : (d v : ℕ) → (get_or s i 0 ≡ 95 → ⊥) → Some d ≡ digit_of base (get_or s i 0) → v ≡ acc * base + d → Walked base s (i + 1) v
@@ -132,10 +111,10 @@ bare_other : (x : ℕ) (xs : List ℕ) → (x ≡ 95 → ⊥) → bare (x ∷ xs
 bare_other x xs n = ap (λ t. cond (not t) (x ∷ bare xs) (bare xs)) (ne_eqb x 95 n)
 
 digit_yes : (base x : ℕ) → base ≤ 16 → digit_value x < base → digit_of base x ≡ Some (digit_value x)
-digit_yes base x b h = sym (digit_below base x (digit_value x) (hex_digit x (lt_of_lt_of_le h b)) h)
+digit_yes base x b h = let e = hex_digit x (lt_of_lt_of_le h b) in grind (arith, common_steps, nat_tests)
 
 digit_no : (base x : ℕ) → base ≤ digit_value x → digit_of base x ≡ None
-digit_no base x h = ⊎_elim (λ l. sym (digit_above base x (digit_value x) (hex_digit x l) h)) (λ l. sym (digit_none base x (hex_none x l))) (cases_lt (digit_value x) 16)
+digit_no base x h = ⊎_elim (λ l. let e = hex_digit x l in grind (arith, common_steps, nat_tests)) (λ l. let e = hex_none x l in grind (arith, common_steps)) (cases_lt (digit_value x) 16)
 
 told : (base : ℕ) → base ≤ 16 → (xs : List ℕ) (acc : ℕ) → Told base acc xs (value_from base acc xs)
 unfolding value_from

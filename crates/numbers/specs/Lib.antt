@@ -1,3 +1,4 @@
 pub mod Longest
 pub mod Within
 pub mod Written
+pub mod Told

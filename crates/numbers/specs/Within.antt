@@ -1,11 +1,10 @@
 -- Where the piece or the fault of a number lies.
-use Rattle.std.specs.Prelude.{◌≡◌, ℕ, suc, ◌<◌, ◌≤◌, true, List, length, slice_index}
+use Rattle.std.specs.Prelude.{◌≡◌, ℕ, suc, ◌<◌, ◌≤◌, true, List, length, Some, None, Ok, Err, slice_index}
 use Rattle.rules.specs.declared.LexerState.{LexerState}
 use Rattle.rules.specs.declared.Pending.TheVariants.{Nothing}
 use Rattle.rules.specs.declared.Step.{Step}
-use Rattle.rules.specs.declared.Verdict.{Verdict}
-use Rattle.rules.specs.declared.Verdict.TheVariants.{Piece, End, Fault}
 use Rattle.rules.specs.Bytes.{is_digit}
+use Rattle.rules.specs.State.{Verdict}
 
 -- there are bytes, and the last is b
 abbrev pub EndsIn : ℕ → List ℕ → Type 0
@@ -22,6 +21,6 @@ pub record Inside (m : LexerState) (xs : List ℕ) (s : Step) : Type 0 where
 
 -- a number is such a piece, or a fault that is seen within the bytes
 abbrev pub Within : LexerState → List ℕ → Verdict → Type 0
-Within m xs (Piece s) = Inside m xs s
-Within m xs End = ⊥
-Within m xs (Fault f n) = n ≤ length xs
+Within m xs (Ok (Some s)) = Inside m xs s
+Within m xs (Ok None) = ⊥
+Within m xs (Err f) = f.distance ≤ length xs

@@ -1,7 +1,6 @@
 // The parts of a number, and how far they reach.
 ghost use Rattle.std.specs.Prelude.{◌≡◌};
-ghost use Rattle.rules.specs.Numbers.{sign_or_digit, member_ahead, turn as turn_at, scan as scan_at};
-ghost use Rattle.numbers.specs.Longest.{Longest};
+ghost use Rattle.rules.specs.Numbers.{sign_or_digit, member_ahead};
 
 use byte_search::after;
 use rules::NumberState;
@@ -24,39 +23,52 @@ fn member_ahead(s: &[u8]) -> bool
     }
 }
 
-// What the part and the next byte decide: the part from there on, or a stop.
-fn turn(radix: u32, after_dot: bool, state: NumberState, c: u8, rest: &[u8]) -> Option<NumberState>
-    ensures { result ≡ turn_at radix after_dot state c rest.now }
-{
-    match (state, c) {
-        (NumberState::RadixInteger, b'a'..=b'f' | b'A'..=b'F') if radix == 16 => Some(state),
-        (NumberState::Integer, b'.') => {
-            if after_dot || member_ahead(rest) {
-                return None;
-            }
-            Some(NumberState::Fraction)
-        }
-        (NumberState::Integer | NumberState::Fraction, b'e' | b'E') => Some(NumberState::Exponent),
-        (NumberState::Exponent, b'+' | b'-') => Some(NumberState::ExponentSign),
-        (NumberState::Exponent | NumberState::ExponentSign, b'0'..=b'9') => {
-            Some(NumberState::ExponentDigits)
-        }
-        (_, b'0'..=b'9' | b'_') => Some(state),
-        _ => None,
-    }
+// How a number is scanned: its base, whether a dot is right ahead of it, and the part that it begins in.
+#[derive(Clone, Copy)]
+pub struct Scanner {
+    pub radix: u32,
+    pub after_dot: bool,
+    pub start: NumberState,
 }
 
-// How many bytes a number has from a part on, and the part in which it stops.
-pub fn scan(radix: u32, after_dot: bool, start: NumberState, rest: &[u8]) -> (usize, NumberState)
-    ensures value { result ≡ scan_at radix after_dot start rest.now }
-    ensures longest { Longest radix after_dot start rest.now result.0 result.1 }
-{
-    let mut state = start;
-    for (len, c) in rest.iter().enumerate() {
-        match turn(radix, after_dot, state, *c, after(rest, len + 1)) {
-            Some(next) => state = next,
-            None => return (len, state),
+impl Scanner {
+    ghost use Rattle.rules.specs.Numbers.{turn, scan};
+    ghost use Rattle.numbers.specs.Longest.{Longest};
+
+    // What the part and the next byte decide: the part from there on, or a stop.
+    fn turn(self, state: NumberState, c: u8, rest: &[u8]) -> Option<NumberState>
+        ensures { result ≡ turn self.radix self.after_dot state c rest.now }
+    {
+        match (state, c) {
+            (NumberState::RadixInteger, b'a'..=b'f' | b'A'..=b'F') if self.radix == 16 => {
+                Some(state)
+            }
+            (NumberState::Integer, b'.') if self.after_dot || member_ahead(rest) => None,
+            (NumberState::Integer, b'.') => Some(NumberState::Fraction),
+            (NumberState::Integer | NumberState::Fraction, b'e' | b'E') => {
+                Some(NumberState::Exponent)
+            }
+            (NumberState::Exponent, b'+' | b'-') => Some(NumberState::ExponentSign),
+            (NumberState::Exponent | NumberState::ExponentSign, b'0'..=b'9') => {
+                Some(NumberState::ExponentDigits)
+            }
+            (_, b'0'..=b'9' | b'_') => Some(state),
+            _ => None,
         }
     }
-    (rest.len(), state)
+
+    // How many bytes a number has, and the part in which it stops.
+    pub fn scan(self, rest: &[u8]) -> (usize, NumberState)
+        ensures value { result ≡ scan self.radix self.after_dot self.start rest.now }
+        ensures longest { Longest self.radix self.after_dot self.start rest.now result.0 result.1 }
+    {
+        let mut state = self.start;
+        for (len, c) in rest.iter().enumerate() {
+            let Some(next) = self.turn(state, *c, after(rest, len + 1)) else {
+                return (len, state);
+            };
+            state = next;
+        }
+        (rest.len(), state)
+    }
 }

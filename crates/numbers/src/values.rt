@@ -8,8 +8,7 @@ ghost use Rattle.numbers.specs.Written.{below128, Written};
 fn to_digit(radix: u32, c: u8) -> Option<u32>
     ensures { result ≡ digit_of radix c }
 {
-    let digit = char::from(c).to_digit(16)?;
-    if digit < radix { Some(digit) } else { None }
+    char::from(c).to_digit(16).filter(|digit| *digit < radix)
 }
 
 // The value with one digit more behind it, where that is below 2^128.
@@ -31,10 +30,9 @@ pub fn from_str_radix(digits: &[u8], radix: u32) -> Option<u128>
     }
     let mut value = 0;
     for c in digits {
-        if *c == b'_' {
-            continue;
+        if *c != b'_' {
+            value = push_digit(value, radix, to_digit(radix, *c)?)?;
         }
-        value = push_digit(value, radix, to_digit(radix, *c)?)?;
     }
     Some(value)
 }

@@ -6,15 +6,15 @@ use finder::Finder;
 use finders::DefaultFinder;
 use std::io::Read;
 
-fn run(rt: &HostRuntime) -> anyhow::Result<()> {
+fn run(rt: &(impl Alloc + Input + Print)) -> anyhow::Result<()> {
     let mut input = Vec::new(rt.alloc());
-    rt.stdin().read_to_end(&mut input)?;
+    rt.reader().read_to_end(&mut input)?;
     let source = input.as_slice();
     let mut offset = 0usize;
     let mut count = 0u64;
     while let Some((distance, marker, len)) = DefaultFinder.find(source, offset) {
-        let (at, name) = (offset + distance, marker.name());
-        println!(rt; "{at} {name} {len}")?;
+        let at = offset + distance;
+        println!(rt; "{at} {marker} {len}")?;
         offset = at + len;
         count = count.saturating_add(1);
     }

@@ -1,8 +1,10 @@
 -- The numbers and names of reading faults.
-use Rattle.std.specs.Prelude.{ℕ, List, Some, None, codes, Option}
+use Rattle.std.specs.Prelude.{ℕ, List, ◌++◌, Some, None, codes, Option}
+use Rattle.std.specs.Fmt.{decimal}
 use Rattle.escape.specs.Faults.{place_of, name_of}
 use Rattle.escape.specs.Faults.{number_of as decode_number}
 use Rattle.pieces.specs.declared.fault.FaultKind.{FaultKind}
+use Rattle.pieces.specs.declared.fault.ReadFault.{ReadFault}
 use Rattle.pieces.specs.declared.fault.FaultKind.TheVariants.{UnendedComment, UnendedRaw, UnendedString, NoToken, TrailingUnderscore, NoExponent, BadInteger, AfterExpression, Escape}
 
 -- 7, 8, 9: a comment, a raw block, a string has no end; 10: no token begins here; 11: a number ends in `_`; 12: an exponent has no digit;
@@ -41,3 +43,7 @@ backslash_of NoExponent = None
 backslash_of BadInteger = None
 backslash_of AfterExpression = None
 backslash_of (Escape f) = Some (place_of f)
+
+-- a fault as it is shown: its name, and the line and column where it begins
+abbrev pub fault_text : ReadFault → List ℕ
+fault_text f = fault_name f.kind ++ codes " at line " ++ decimal f.span.start.line ++ codes ", column " ++ decimal f.span.start.column

@@ -1,13 +1,15 @@
 // Why a reading fails.
-ghost use Rattle.std.specs.Prelude.{◌≡◌};
+ghost use Rattle.std.specs.Prelude.{◌≡◌, Some};
 ghost use Rattle.pieces.specs.declared.fault.FaultKind.TheVariants.{Escape as escaped};
-ghost use Rattle.pieces.specs.Faults.{number_of, fault_name, backslash_of};
+ghost use Rattle.pieces.specs.Faults.{number_of, fault_name, fault_text, backslash_of};
 
 use escape::DecodeFault;
 use places::Span;
+use std::error::Error;
+use std::fmt;
 
 // What is wrong.
-#[derive(Clone, Copy)]
+#[derive(Clone, Copy, Debug, PartialEq, Eq)]
 pub enum FaultKind {
     // a comment has no end
     UnendedComment,
@@ -30,11 +32,25 @@ pub enum FaultKind {
 }
 
 // What is wrong, and where.
-#[derive(Clone, Copy)]
+#[derive(Clone, Copy, Debug, PartialEq, Eq)]
 pub struct ReadFault {
     pub kind: FaultKind,
     pub span: Span,
 }
+
+// Shown by its name and where it begins.
+impl fmt::Display for ReadFault {
+    ghost output = { λ f. Some (fault_text f) };
+
+    fn fmt<W: fmt::Write>(&self, f: &mut fmt::Formatter<W>) -> fmt::Result {
+        let name = self.kind.name();
+        let line = self.span.start.line;
+        let column = self.span.start.column;
+        write!(f, "{name} at line {line}, column {column}")
+    }
+}
+
+impl Error for ReadFault {}
 
 impl From<DecodeFault> for FaultKind {
     ghost from_gives = { λ x y. y ≡ escaped x };

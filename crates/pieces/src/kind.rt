@@ -1,9 +1,11 @@
 // What a piece is.
-ghost use Rattle.std.specs.Prelude.{◌≡◌};
+ghost use Rattle.std.specs.Prelude.{◌≡◌, Some};
 ghost use Rattle.pieces.specs.Kinds.{operator_text, kind_name, is_gap};
 
+use std::fmt;
+
 // An operator or a bracket.
-#[derive(Clone, Copy)]
+#[derive(Clone, Copy, Debug, PartialEq, Eq)]
 pub enum Operator {
     Plus,
     Minus,
@@ -67,8 +69,17 @@ impl Operator {
     }
 }
 
+// Shown by its own bytes.
+impl fmt::Display for Operator {
+    ghost output = { λ o. Some (operator_text o) };
+
+    fn fmt<W: fmt::Write>(&self, f: &mut fmt::Formatter<W>) -> fmt::Result {
+        f.write_str(self.text())
+    }
+}
+
 // What a piece is: a token, or from White on a gap.
-#[derive(Clone, Copy)]
+#[derive(Clone, Copy, Debug, PartialEq, Eq)]
 pub enum Kind {
     Text,
     RawText,
@@ -127,14 +138,23 @@ impl Kind {
     pub fn is_gap(self) -> bool
         ensures { result ≡ is_gap self }
     {
-        match self {
-            Kind::White => true,
-            Kind::Comment => true,
-            Kind::LineComment => true,
-            Kind::RawOpen => true,
-            Kind::RawClose => true,
-            Kind::Cut => true,
-            _ => false,
-        }
+        matches!(
+            self,
+            Kind::White
+                | Kind::Comment
+                | Kind::LineComment
+                | Kind::RawOpen
+                | Kind::RawClose
+                | Kind::Cut
+        )
+    }
+}
+
+// Shown by its name.
+impl fmt::Display for Kind {
+    ghost output = { λ k. Some (kind_name k) };
+
+    fn fmt<W: fmt::Write>(&self, f: &mut fmt::Formatter<W>) -> fmt::Result {
+        f.write_str(self.name())
     }
 }

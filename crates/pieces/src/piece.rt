@@ -6,18 +6,19 @@ use places::Span;
 use ranged::Ranged;
 
 // From one byte of a template up to, and without, another.
-#[derive(Clone, Copy)]
+#[derive(Clone, Copy, Debug, PartialEq, Eq)]
 pub struct TextRange {
     pub start: u32,
     pub end: u32,
 }
 
 // A piece of a template: what it is, where it stands, which bytes are its text, and its value: an integer's, or the decoded length of a string.
-#[derive(Clone, Copy)]
+#[derive(Clone, Copy, Debug, PartialEq, Eq)]
 pub struct Piece {
     pub kind: Kind,
     pub span: Span,
     pub text: TextRange,
+    // It stands beside the kind, not in it: recorded pieces of any kind may come with it or without.
     pub value: Option<u64>,
 }
 

@@ -1,6 +1,5 @@
 -- Advancing in parts is advancing over the whole, and a place is what the bytes before it count.
-use Rattle.std.proofs.Common.{◌≡◌, ℕ, suc, ◌+◌, ◌<◌, ◌≤◌, min, true, false, List, [], ◌∷◌, ◌++◌, length, get_or, take, sym, refl, ap, ◌∙◌, ⊎_elim, arith}
-use Rattle.std.proofs.lemmas.List.{take_more}
+use Rattle.std.proofs.Common.{◌≡◌, ℕ, suc, ◌+◌, ◌<◌, ◌≤◌, min, true, false, List, [], ◌∷◌, ◌++◌, length, sym, refl, ap, ◌∙◌, ⊎_elim, arith}
 use Rattle.std.proofs.lemmas.Bool.{cases_Bool, cases_lt, lt-ltb, le-ltb}
 use Rattle.places.specs.declared.Place.{Place}
 use Rattle.places.specs.Places.{line_cap, column_cap, offset_cap, is_lf, goes_on, first_place, past, beyond, capped, count_lf, count_chars, since_lf, place_behind}
@@ -45,14 +44,10 @@ pub beyond_none : (p : Place) → beyond [] p ≡ p
 unfolding beyond
 beyond_none p = refl
 
--- the loop: one byte more
-pub beyond_more : (xs : List ℕ) (i : ℕ) (p : Place) → i < length xs → past (get_or xs i 0) (beyond (take i xs) p) ≡ beyond (take (i + 1) xs) p
+-- one byte more
+pub step_more : (xs : List ℕ) (x : ℕ) (p q r : Place) → q ≡ capped (beyond xs p) → r ≡ capped (past x q) → r ≡ capped (beyond (xs ++ (x ∷ [])) p)
 unfolding beyond
-beyond_more xs i p h = sym (ap (λ ys. beyond ys p) (take_more xs i 0 h) ∙ beyond_append (take i xs) (get_or xs i 0 ∷ []) p)
-
-pub step_more : (xs : List ℕ) (i : ℕ) (p q r : Place) → i < length xs → q ≡ capped (beyond (take i xs) p) → r ≡ capped (past (get_or xs i 0) q) → r ≡ capped (beyond (take (i + 1) xs) p)
-step_more xs i p q r h e f =
-    f ∙ ap (λ t. capped (past (get_or xs i 0) t)) e ∙ capped_past (get_or xs i 0) (beyond (take i xs) p) ∙ ap capped (beyond_more xs i p h)
+step_more xs x p q r e f = f ∙ ap (λ t. capped (past x t)) e ∙ capped_past x (beyond xs p) ∙ ap capped (sym (beyond_append xs (x ∷ []) p))
 
 lf_yes : (x : ℕ) (xs : List ℕ) → is_lf x ≡ true → count_lf (x ∷ xs) ≡ suc (count_lf xs)
 unfolding count_lf

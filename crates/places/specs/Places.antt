@@ -1,5 +1,6 @@
 -- Where in a template a place lies: its line, its column and its offset.
-use Rattle.std.specs.Prelude.{ℕ, suc, ◌+◌, min, Bool, true, false, ◌&&◌, List, [], ◌∷◌, length, ◌==◌, nat_le, nat_lt}
+use Rattle.std.specs.Prelude.{ℕ, suc, ◌+◌, min, Bool, true, false, ◌&&◌, List, [], ◌∷◌, ◌++◌, length, ◌==◌, nat_le, nat_lt}
+use Rattle.std.specs.Fmt.{decimal}
 use Rattle.places.specs.declared.Place.{Place}
 
 -- the highest line that is told
@@ -61,3 +62,7 @@ since_lf (x ∷ xs) = elim (nat_lt 0 (count_lf (x ∷ xs))) [ true ↦ since_lf 
 -- the place behind the bytes: 1 and the LFs, the characters since the last LF, the bytes
 abbrev pub place_behind : List ℕ → Place
 place_behind xs = record { line = 1 + count_lf xs; column = count_chars (since_lf xs); offset = length xs }
+
+-- a place in print: line, column and offset in decimal, with colons between
+abbrev pub place_text : Place → List ℕ
+place_text p = decimal p.line ++ (58 ∷ []) ++ decimal p.column ++ (58 ∷ []) ++ decimal p.offset

@@ -2,12 +2,14 @@
 
 #![tactic(auto)]
 
-ghost use Rattle.std.specs.Prelude.{◌≡◌, ℕ, List, [], ◌++◌, length};
+ghost use Rattle.std.specs.Prelude.{◌≡◌, ℕ, Some, List, [], ◌++◌, length};
 ghost use Rattle.std.proofs.Math.Utf8.{encodes};
-ghost use Rattle.places.specs.Places.{count_chars, first_place, past, beyond, capped, place_behind};
+ghost use Rattle.places.specs.Places.{count_chars, first_place, past, beyond, capped, place_behind, place_text};
+
+use std::fmt;
 
 // A place. A number that its type does not hold is told as the highest that it does.
-#[derive(Clone, Copy)]
+#[derive(Clone, Copy, Debug, PartialEq, Eq, PartialOrd, Ord)]
 pub struct Place {
     // 1 and the LFs before.
     pub line: u16,
@@ -18,7 +20,7 @@ pub struct Place {
 }
 
 // From one place up to, and without, another.
-#[derive(Clone, Copy)]
+#[derive(Clone, Copy, Debug, PartialEq, Eq)]
 pub struct Span {
     pub start: Place,
     pub end: Place,
@@ -63,10 +65,14 @@ impl Place {
         ensures told { (xs : List ℕ) → self ≡ capped (place_behind xs) → result ≡ capped (place_behind (xs ++ bytes.now)) }
         ensures characters { (cs : List ℕ) → count_chars (encodes cs) ≡ length cs }
     {
-        let mut place = self;
-        for b in bytes {
-            place = place.step(*b);
-        }
-        place
+        bytes.iter().fold(self, |place, b| place.step(*b))
+    }
+}
+
+impl fmt::Display for Place {
+    ghost output = { λ p. Some (place_text p) };
+
+    fn fmt<W: fmt::Write>(&self, f: &mut fmt::Formatter<W>) -> fmt::Result {
+        write!(f, "{}:{}:{}", self.line, self.column, self.offset)
     }
 }

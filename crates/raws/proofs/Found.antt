@@ -1,8 +1,7 @@
 -- The first closing tag.
-use Rattle.std.proofs.Common.{◌≡◌, ℕ, zero, suc, ◌+◌, ◌-◌, ◌<◌, ◌≤◌, List, [], ◌∷◌, length, drop, Some, None, Option, sym, refl, ap, ◌∙◌, subst, ⊎_elim, arith}
+use Rattle.std.proofs.Common.{◌≡◌, ℕ, zero, suc, ◌+◌, ◌-◌, ◌<◌, ◌≤◌, List, [], ◌∷◌, length, drop, Some, None, Option, sym, refl, ap, ◌∙◌, subst, arith}
 use Rattle.std.proofs.lemmas.List.{length-drop, drop-drop}
-use Rattle.std.proofs.lemmas.Bool.{cases_lt, cases_order}
-use Rattle.byte_search.specs.Search.{stands_at, First, Stands}
+use Rattle.byte_search.specs.Search.{First, Stands}
 use Rattle.rules.specs.declared.EndRaw.{EndRaw}
 use Rattle.rules.specs.Config.{Config}
 use Rattle.rules.specs.Texts.{Far, closer_at, away, find_closer}
@@ -14,8 +13,7 @@ module _ (s : Config) where
   pub closes_inside : (xs : List ℕ) (k : ℕ) (r : EndRaw) → Closes s xs k r → (0 < r.len) × (k + r.len ≤ length xs)
   closes_inside xs k r e =
       let w : TagWithin (drop k xs) (Some r) = subst (TagWithin (drop k xs)) e (closer_within s (drop k xs)) in
-      let l = length-drop k xs in
-      (w.0, omega (arith, w.0, w.1))
+      grind (arith, w.0, w.1, length-drop)
 
   find_here : (x : ℕ) (xs : List ℕ) (r : EndRaw) → closer_at s (x ∷ xs) ≡ Some r → find_closer s (x ∷ xs) ≡ Some (0, r)
   unfolding find_closer
@@ -48,15 +46,7 @@ module _ (s : Config) where
   closer_unique xs None None f g = refl
   closer_unique xs None (Some u) f g = absurd (f u.0 u.1 g.0)
   closer_unique xs (Some t) None f g = absurd (g t.0 t.1 f.0)
-  closer_unique xs (Some t) (Some u) f g =
-      ⊎_elim
-      (λ e.
-      let p = f.0 in
-      let q : closer_at s (drop t.0 xs) ≡ Some u.1 = ap (λ k. closer_at s (drop k xs)) e ∙ g.0 in
-      let z : t.1 ≡ u.1 = cc in
-      ap (λ k. Some (k, t.1)) e ∙ ap (λ r. Some (u.0, r)) z)
-      (⊎_elim (λ h. absurd (g.1 t.0 t.1 h f.0)) (λ h. absurd (f.1 u.0 u.1 h g.0)))
-      (cases_order t.0 u.0)
+  closer_unique xs (Some t) (Some u) f g = grind (arith, f.0, g.0, f.1, g.1)
 
   first_within : (xs : List ℕ) (r : Option Far) → FirstCloser s xs r → FarWithin xs r
   first_within xs None f = tt
@@ -77,32 +67,20 @@ module _ (s : Config) where
   abbrev pub Clear : List ℕ → ℕ → Type 0
   Clear xs i = (k : ℕ) (r : EndRaw) → k < i → Closes s xs k r → ⊥
 
-  module _ (xs ys : List ℕ) (i : ℕ) (e : ys ≡ drop i xs) (clear : Clear xs i) where
-    start_behind : (k : ℕ) (r : EndRaw) → i ≤ k → Closes s xs k r → Stands s.block_start ys (k - i)
-    start_behind k r h c =
-        let z : i + (k - i) ≡ k = omega arith in
-        let w = closes_inside xs k r c in
-        let l = length-drop i xs in
-        let m = ap length e in
-        (omega (arith, w.0, w.1), ap (λ t. stands_at s.block_start (drop (k - i) t)) e ∙ ap (stands_at s.block_start) (drop-drop (k - i) i xs ∙ ap (λ j. drop j xs) z) ∙ closer_stands s (drop k xs) r c)
+  module _ (xs ys ds : List ℕ) (i : ℕ) (e : ys ≡ drop i xs) (q : ds ≡ s.block_start) (clear : Clear xs i) where
+    start_behind : (k : ℕ) (r : EndRaw) → i ≤ k → Closes s xs k r → Stands ds ys (k - i)
+    start_behind k r h c = grind (arith, closes_inside, length-drop, drop-drop, closer_stands, c, e, q)
 
     -- no closing tag stands where the block start does not
-    pub start_skip : (d : ℕ) → First (Stands s.block_start ys) (Some d) → Clear xs (i + d)
-    start_skip d f k r h c = ⊎_elim (λ b. clear k r b c) (λ b. f.1 (k - i) (omega arith) (start_behind k r b c)) (cases_lt k i)
+    pub start_skip : (d : ℕ) → First (Stands ds ys) (Some d) → Clear xs (i + d)
+    start_skip d f k r h c = grind (arith, clear, f.1, start_behind, c)
 
-    pub start_none : First (Stands s.block_start ys) None → FirstCloser s xs None
-    start_none f k r c = ⊎_elim (λ b. clear k r b c) (λ b. f (k - i) (start_behind k r b c)) (cases_lt k i)
+    pub start_none : First (Stands ds ys) None → FirstCloser s xs None
+    start_none f k r c = grind (arith, clear, f, start_behind, c)
 
   -- where the tag does not stand, the search goes on one byte further
   pub clear_more : (xs zs : List ℕ) (i : ℕ) → Clear xs i → zs ≡ drop i xs → None ≡ closer_at s zs → Clear xs (i + 1)
-  clear_more xs zs i c e f k r h d =
-      ⊎_elim
-      (λ b. c k r b d)
-      (λ b. let z : k ≡ i = omega arith in differ (closer_at s zs) r (sym f) (ap (closer_at s) (e ∙ ap (λ j. drop j xs) (sym z)) ∙ d))
-      (cases_lt k i)
-
-  pub clear_none : (xs : List ℕ) → Clear xs 0
-  clear_none xs k r h = absurd (omega arith)
+  clear_more xs zs i c e f k r h d = grind (arith, c, e, f, d)
 
   -- a tag that stands in front of what is left stands at the place
   pub closes_at : (xs zs : List ℕ) (i : ℕ) (r : EndRaw) → zs ≡ drop i xs → Some r ≡ closer_at s zs → Closes s xs i r

@@ -1,13 +1,12 @@
 -- Where the tag stands that closes a raw block.
-use Rattle.std.specs.Prelude.{◌≡◌, ℕ, ◌+◌, ◌<◌, ◌≤◌, true, List, [], ◌∷◌, ◌++◌, length, take, drop, Some, None, Option, slice_index}
+use Rattle.std.specs.Prelude.{◌≡◌, ℕ, ◌+◌, ◌<◌, ◌≤◌, true, List, [], ◌∷◌, ◌++◌, length, take, drop, Some, None, Ok, Err, Option, slice_index}
 use Rattle.spaces.specs.Lines.{is_blank}
 use Rattle.rules.specs.declared.EndRaw.{EndRaw}
 use Rattle.rules.specs.declared.Pending.TheVariants.{RawClose}
-use Rattle.rules.specs.declared.Verdict.{Verdict}
-use Rattle.rules.specs.declared.Verdict.TheVariants.{Piece, End, Fault}
-use Rattle.rules.specs.declared.Whitespace.{Whitespace}
-use Rattle.rules.specs.declared.Whitespace.TheVariants.{Default, Preserve, Remove}
+use Rattle.rules.specs.declared.whitespace.Whitespace.{Whitespace}
+use Rattle.rules.specs.declared.whitespace.Whitespace.TheVariants.{Default, Preserve, Remove}
 use Rattle.rules.specs.Config.{Config}
+use Rattle.rules.specs.State.{Verdict}
 use Rattle.rules.specs.Texts.{Basic, Far, endraw_name, closer_at}
 
 -- the tag has more bytes than its name, and lies in xs
@@ -60,6 +59,6 @@ FirstCloser s xs (Some t) = Closes s xs t.0 t.1 × ((k : ℕ) (r : EndRaw) → k
 
 -- a raw text ends at the first closing tag, which waits behind it; it is a fault exactly if there is none
 abbrev pub RawEnds : Config → List ℕ → Verdict → Type 0
-RawEnds s xs (Piece p) = (r : EndRaw) × (p.pending ≡ RawClose r.len r.last) × FirstCloser s xs (Some (p.len, r))
-RawEnds s xs End = ⊥
-RawEnds s xs (Fault k d) = FirstCloser s xs None
+RawEnds s xs (Ok (Some p)) = (r : EndRaw) × (p.pending ≡ RawClose r.len r.last) × FirstCloser s xs (Some (p.len, r))
+RawEnds s xs (Ok None) = ⊥
+RawEnds s xs (Err f) = FirstCloser s xs None

@@ -1,27 +1,22 @@
 -- A reader is a stream.
-use Rattle.std.proofs.Common.{◌≡◌, ℕ, ◌+◌, ◌<◌, ◌≤◌, Bool, List, length, sym, ap, ◌∙◌, subst}
+use Rattle.std.proofs.Common.{◌≡◌, List, Option, Result, sym, ap, ◌∙◌, subst}
 use Rattle.finder.specs.Finding.{Opening}
-use Rattle.stream.specs.declared.answer.Answer.{Answer}
-use Rattle.stream.specs.declared.answer.Ending.{Ending}
 use Rattle.stream.specs.Told.{Next, Falls}
 use Rattle.pieces.specs.declared.fault.ReadFault.{ReadFault}
 use Rattle.pieces.specs.declared.piece.Piece.{Piece}
 use Rattle.syntax.specs.declared.settings.Settings.{Settings}
 use Rattle.syntax.specs.Openings.{openings_of}
 use Rattle.rules.specs.Config.{config_of}
-use Rattle.rules.specs.declared.LexerState.{LexerState}
-use Rattle.rules.specs.declared.Pending.{Pending}
-use Rattle.rules.specs.At.{core_at}
 use Rattle.rules.specs.Reading.{Unread, meaning}
-use Rattle.rules.specs.Shapes.{held, least}
 use Rattle.rules.specs.Texts.{Same}
 use Rattle.rules.proofs.Fuel.{FineAt, meaning_ends}
 use Rattle.rules.proofs.Whole.{fine_at}
-use Rattle.reader.specs.Views.{View, tell, items_of, ending_of, left_of}
+use Rattle.reader.specs.declared.reader.Reader.{Reader}
+use Rattle.reader.specs.Views.{View, view_of, config, tell, items_of, ending_of, left_of}
 use Rattle.reader.proofs.Settings.{ended, apart}
 use Rattle.reader.proofs.Tells.{tells, falls, same_tell}
 
-module _ (os : List Opening) (st su : Settings) (v u : View) (a : Answer Piece (Ending ReadFault)) (fine : FineAt v.core)
+module _ (os : List Opening) (st su : Settings) (v u : View) (a : Result (Option Piece) ReadFault) (fine : FineAt v.core)
     (same : su ≡ st) (answer : a ≡ (tell os (config_of st) v).answer) (after : u ≡ (tell os (config_of st) v).after) where
   pub stream_tells : Same os (openings_of st)
       → Next (items_of (openings_of st) (config_of st) v) (ending_of (openings_of st) (config_of st) v) a (items_of (openings_of su) (config_of su) u) (ending_of (openings_of su) (config_of su) u)
@@ -42,5 +37,7 @@ module _ (os : List Opening) (st su : Settings) (v u : View) (a : Answer Piece (
       (subst (λ x. Falls (left_of v) x (left_of (tell os (config_of st) v).after)) (sym answer) (falls os (config_of st) v fine (ended st)))
 
 -- a reading has enough calls to end
-pub ends_told : (st : Settings) (t : List ℕ) (n i : ℕ) (m : LexerState) (w : Pending) (e : Bool) → n ≤ length t → i + held w ≤ n → 0 < least w → (meaning (openings_of st) (config_of st) (core_at t n i m w e)).stop ≡ Unread → ⊥
-ends_told st t n i m w e within inside lively = meaning_ends (openings_of st) (config_of st) (ended st) (core_at t n i m w e) (fine_at t n i m w e within inside lively)
+pub reader_ends : (r : Reader) → (meaning (openings_of r.settings) (config r) (view_of r).core).stop ≡ Unread → ⊥
+reader_ends r =
+    let a = r.reading in
+    meaning_ends (openings_of r.settings) (config r) (ended r.settings) (view_of r).core (fine_at a.template.now a.left a.offset a.state a.pending a.cut_told a.within a.inside a.lively)

@@ -1,5 +1,6 @@
 -- The numbers of refusals of opening.
 use Rattle.std.specs.Prelude.{ℕ, List, Some, None, codes, Option}
+use Rattle.utf8.specs.Utf8.{not_utf8_text}
 use Rattle.reader.specs.declared.fault.OpenFault.{OpenFault}
 use Rattle.reader.specs.declared.fault.OpenFault.TheVariants.{TooLong, NotUtf8}
 
@@ -17,3 +18,8 @@ byte_of (NotUtf8 f) = Some f.byte
 abbrev pub fault_name : OpenFault → List ℕ
 fault_name TooLong = codes "too long"
 fault_name (NotUtf8 f) = codes "not UTF-8"
+
+-- the refusal as it is shown
+abbrev pub fault_text : OpenFault → List ℕ
+fault_text TooLong = codes "too long"
+fault_text (NotUtf8 f) = not_utf8_text f

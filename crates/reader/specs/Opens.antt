@@ -37,5 +37,5 @@ Checks t (Err f) = Refuses t f
 
 -- a reader p becomes a reader q of the template under the same settings, of which nothing is read; or it is refused, and the reader is as it was
 abbrev pub Opens : Reader → LexerState → List ℕ → Result Unit OpenFault → Reader → Type 0
-Opens p m t (Ok u) q = (length t ≤ max_len) × (prefix t ≡ length t) × (q.settings ≡ p.settings) × (q.template.now ≡ t) × (view_of q ≡ unread (config_of p.settings) m t) × Leaves (config_of p.settings).keep_trailing t (view_of q).core.ahead
+Opens p m t (Ok u) q = (length t ≤ max_len) × (prefix t ≡ length t) × (q.settings ≡ p.settings) × (q.reading.template.now ≡ t) × (view_of q ≡ unread (config_of p.settings) m t) × Leaves (config_of p.settings).keep_trailing t (view_of q).core.ahead
 Opens p m t (Err f) q = Refuses t f × (q ≡ p)

@@ -1,9 +1,7 @@
 -- What a reader is to the rules, and what its calls tell.
-use Rattle.std.specs.Prelude.{ℕ, suc, List, [], ℤ, pos, Some, None, Option}
+use Rattle.std.specs.Prelude.{ℕ, suc, List, [], ℤ, pos, Some, None, Option, Ok, Err, Result}
 use Rattle.finder.specs.Finding.{Opening}
-use Rattle.stream.specs.declared.answer.Answer.{Answer}
-use Rattle.stream.specs.declared.answer.Answer.TheVariants.{Item, End}
-use Rattle.stream.specs.declared.answer.Ending.{Ending}
+use Rattle.stream.specs.Told.{Ending}
 use Rattle.places.specs.declared.Place.{Place}
 use Rattle.places.specs.Places.{beyond, first_place}
 use Rattle.pieces.specs.declared.fault.ReadFault.{ReadFault}
@@ -17,6 +15,7 @@ use Rattle.rules.specs.State.{Core}
 use Rattle.rules.specs.Told.{placed, pieces, ended, ending}
 use Rattle.rules.specs.Texts.{Same}
 use Rattle.reader.specs.declared.reader.Reader.{Reader}
+use Rattle.reader.specs.declared.reading.Reading.{Reading}
 
 -- the state of the reading; the place that it reached, without a cap; the balance of brackets; and the ending, once it was told
 pub record View : Type 0 where
@@ -25,14 +24,18 @@ pub record View : Type 0 where
   pub balance : ℤ
   pub told : Option (Ending ReadFault)
 
--- of a reader
-abbrev pub view_of : Reader → View
-view_of r = record {
+-- of how far a template is read
+abbrev pub view : Reading → View
+view r = record {
   core = core_at r.template.now r.left r.offset r.state r.pending r.cut_told;
   place = place_at r.template.now r.offset;
   balance = r.balance;
   told = r.told;
 }
+
+-- of a reader
+abbrev pub view_of : Reader → View
+view_of r = view r.reading
 
 -- what the rules take from its settings
 abbrev pub config : Reader → Config
@@ -42,25 +45,30 @@ config r = config_of r.settings
 abbrev pub unread : Config → LexerState → List ℕ → View
 unread s m t = record { core = starting s m t; place = first_place; balance = pos 0; told = None }
 
+-- an ending, as a call tells it
+abbrev pub told_as : Ending ReadFault → Result (Option Piece) ReadFault
+told_as (Ok u) = Ok None
+told_as (Err f) = Err f
+
 -- an answer, and the view behind it
 pub record Told : Type 0 where
-  pub answer : Answer Piece (Ending ReadFault)
+  pub answer : Result (Option Piece) ReadFault
   pub after : View
 
 -- a piece is told at its place, and an ending is told and kept
 abbrev pub tell_by : View → Call → Told
 tell_by v (Gives p d) = record {
-  answer = Item (placed v.place p);
+  answer = Ok (Some (placed v.place p));
   after = record { core = d; place = beyond p.bytes v.place; balance = balance_at v.balance d.state; told = None };
 }
 tell_by v (Stops e) = record {
-  answer = End (ended v.place e);
+  answer = told_as (ended v.place e);
   after = record { core = v.core; place = v.place; balance = v.balance; told = Some (ended v.place e) };
 }
 
 -- what next tells with these openings; an ending that was told is told again, and nothing changes
 abbrev pub tell : List Opening → Config → View → Told
-tell os s v = elim v.told [ Some e ↦ record { answer = End e; after = v } | None ↦ tell_by v (call os s v.core) ]
+tell os s v = elim v.told [ Some e ↦ record { answer = told_as e; after = v } | None ↦ tell_by v (call os s v.core) ]
 
 -- the pieces still to come
 abbrev pub items_of : List Opening → Config → View → List Piece

@@ -1,24 +1,19 @@
 // What is left of a template after the cut.
-ghost use Rattle.std.specs.Prelude.{◌≡◌, ◌≤◌, length, take};
+ghost use Rattle.std.specs.Prelude.{◌≡◌, ◌≤◌, length};
 ghost use Rattle.rules.specs.Config.{config_of};
 ghost use Rattle.rules.specs.Reading.{chop, left_len};
 
-use byte_search::until;
 use syntax::Settings;
 
-// How many bytes are left without one final byte `b`.
-fn without_last(s: &[u8], b: u8) -> usize
-    ensures value { take result s.now ≡ chop b s.now }
-    ensures within { result ≤ length s.now }
+// The bytes without one final byte `b`.
+fn without_last(s: &[u8], b: u8) -> &[u8]
+    ensures value { result.now ≡ chop b s.now }
+    ensures within { length result.now ≤ length s.now }
 {
-    let n = s.len();
-    if n == 0 {
-        return 0;
+    match s {
+        [rest @ .., last] if *last == b => rest,
+        _ => s,
     }
-    if s[n - 1] == b {
-        return n - 1;
-    }
-    n
 }
 
 // How many bytes are left after the cut: one final LF, then one final CR are cut, unless trailing line ends are kept.
@@ -29,6 +24,5 @@ pub(crate) fn left_len(settings: &Settings, template: &[u8]) -> usize
     if settings.whitespace().keep_trailing_newline {
         return template.len();
     }
-    let kept = until(template, without_last(template, b'\n'));
-    without_last(kept, b'\r')
+    without_last(without_last(template, b'\n'), b'\r').len()
 }

@@ -9,7 +9,7 @@ use places::Place;
 use stream::Ending;
 
 // What a reader tells when it is closed: the end of its last piece, the ending if one was told, and the balance of brackets.
-#[derive(Clone, Copy)]
+#[derive(Clone, Copy, Debug, PartialEq, Eq)]
 pub struct Closed {
     pub end: Place,
     pub ending: Option<Ending<ReadFault>>,
@@ -24,9 +24,9 @@ impl<'t> Reader<'t> {
         ensures balance { result.balance ≡ (view_of self.entry).balance }
     {
         Closed {
-            end: self.place,
-            ending: self.told,
-            balance: self.balance,
+            end: self.reading.place,
+            ending: self.reading.told,
+            balance: self.reading.balance,
         }
     }
 }

@@ -1,12 +1,14 @@
 // Why a template is not opened.
-ghost use Rattle.std.specs.Prelude.{◌≡◌};
-ghost use Rattle.reader.specs.Faults.{number_of, byte_of, fault_name};
+ghost use Rattle.std.specs.Prelude.{◌≡◌, Some};
+ghost use Rattle.reader.specs.Faults.{number_of, byte_of, fault_name, fault_text};
 ghost use Rattle.reader.specs.declared.fault.OpenFault.TheVariants.{NotUtf8 as illformed};
 
+use std::error::Error;
+use std::fmt;
 use utf8::NotUtf8;
 
 // Why a template is not opened.
-#[derive(Clone, Copy)]
+#[derive(Clone, Copy, Debug, PartialEq, Eq)]
 pub enum OpenFault {
     // it has too many bytes
     TooLong,
@@ -53,3 +55,17 @@ impl OpenFault {
         }
     }
 }
+
+// Shown by its name, and where a byte is at fault, by the byte.
+impl fmt::Display for OpenFault {
+    ghost output = { λ f. Some (fault_text f) };
+
+    fn fmt<W: fmt::Write>(&self, f: &mut fmt::Formatter<W>) -> fmt::Result {
+        match *self {
+            OpenFault::TooLong => f.write_str(self.name()),
+            OpenFault::NotUtf8(fault) => write!(f, "{fault}"),
+        }
+    }
+}
+
+impl Error for OpenFault {}

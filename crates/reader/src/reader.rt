@@ -1,41 +1,79 @@
 // The reader.
-ghost use Rattle.std.specs.Prelude.{◌≡◌, ◌+◌, ◌<◌, ◌≤◌, length};
-ghost use Rattle.places.specs.Places.{capped};
-ghost use Rattle.rules.specs.At.{place_at};
-ghost use Rattle.rules.specs.Reading.{balance_at};
-ghost use Rattle.rules.specs.Shapes.{held, least, level, magnitude};
+ghost use Rattle.std.specs.Prelude.{◌≡◌, ◌-◌, ◌≢◌};
+ghost use Rattle.rules.specs.Reading.{meaning, Unread};
+ghost use Rattle.rules.specs.Shapes.{Fits};
+ghost use Rattle.rules.specs.Texts.{verdict as ruled, AllReal};
+ghost use Rattle.syntax.specs.Openings.{openings_of};
+ghost use Rattle.reader.specs.Views.{view_of, config, told_as, tell, items_of, ending_of, left_of, Lawful};
 
-use pieces::ReadFault;
-use places::Place;
-use rules::{LexerState, Pending};
-use stream::Ending;
+use super::reading::Reading;
+use super::verdicts::verdict_at;
+use byte_search::until;
+use finder::Finder;
+use pieces::{Piece, ReadFault};
+use rules::{Cursor, Verdict};
+use stream::Stream;
 use syntax::Settings;
 
-// A template that is read under settings: how far, what waits there, and what was told.
+// A template that is read under settings.
 #[derive(Drop)]
 pub struct Reader<'t> {
-    pub(crate) template: &'t [u8],
     pub(crate) settings: Settings,
-    // how many bytes are left after the cut; all of them once the cut is told
-    pub(crate) left: usize,
-    // how many bytes are read
-    pub(crate) offset: usize,
-    // the place behind them
-    pub(crate) place: Place,
-    pub(crate) state: LexerState,
-    pub(crate) pending: Pending,
-    // brackets that were opened, less those that were closed
-    pub(crate) balance: i64,
-    // whether the cut was told
-    pub(crate) cut_told: bool,
-    // the ending, once it was told
-    pub(crate) told: Option<Ending<ReadFault>>,
-    ghost small: { length template.now ≤ 16777216 },
-    ghost within: { left ≤ length template.now },
-    ghost inside: { offset + held pending ≤ left },
-    ghost lively: { 0 < least pending },
-    ghost shallow: { level state ≤ offset },
-    ghost balanced: { magnitude balance ≤ offset },
-    ghost agrees: { balance_at balance state ≡ balance },
-    ghost here: { place ≡ capped (place_at template.now offset) },
+    pub(crate) reading: Reading<'t>,
+}
+
+impl<'t> Reader<'t> {
+    // What the rules say of the bytes ahead.
+    fn verdict<F: Finder>(&self, finder: &F) -> Verdict
+        ensures value { result ≡ ruled (F.Finder.openings finder.now) (config self.now) (view_of self.now).core }
+        ensures fits { Fits (self.now.reading.left - self.now.reading.offset) self.now.reading.state self.now.reading.pending result }
+    {
+        let reading = &self.reading;
+        let here = Cursor {
+            settings: &self.settings,
+            source: until(reading.template, reading.left),
+            offset: reading.offset,
+        };
+        verdict_at(&here, finder, reading.state, reading.pending)
+    }
+
+    // The next piece, or that the reading is finished, or its fault; how it ends is told again at every later call: what the rules tell with the finder's openings.
+    pub fn next_piece<F: Finder>(&mut self, finder: &F) -> Result<Option<Piece>, ReadFault>
+        ensures value { result ≡ (tell (F.Finder.openings finder.now) (config self.old) (view_of self.old)).answer }
+        ensures view { view_of self.new ≡ (tell (F.Finder.openings finder.now) (config self.old) (view_of self.old)).after }
+        ensures settings { self.new.settings ≡ self.old.settings }
+        ensures ends { (meaning (openings_of self.old.settings) (config self.old) (view_of self.old).core).stop ≢ Unread }
+        ensures real { AllReal (openings_of self.old.settings) }
+        ensures lawful { Lawful self.old (F.Finder.openings finder.now) → result ≡ (tell (openings_of self.old.settings) (config self.old) (view_of self.old)).answer }
+    {
+        match self.reading.told {
+            Some(ending) => {
+                ending?;
+                Ok(None)
+            }
+            None => {
+                let verdict = self.verdict(finder);
+                self.reading.answer(verdict)
+            }
+        }
+    }
+}
+
+// A reader means the pieces still to come and how they end; a call is answered by that where the finder's openings are those of the settings.
+impl<'t> Stream for Reader<'t> {
+    type Item = Piece;
+
+    type Fault = ReadFault;
+
+    ghost items = { λ r. items_of (openings_of r.settings) (config r) (view_of r) };
+
+    ghost ending = { λ r. ending_of (openings_of r.settings) (config r) (view_of r) };
+
+    ghost serves = { Lawful };
+
+    ghost left = { λ r. left_of (view_of r) };
+
+    fn next<F: Finder>(&mut self, finder: &F) -> Result<Option<Piece>, ReadFault> {
+        self.next_piece(finder)
+    }
 }

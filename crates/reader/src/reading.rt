@@ -1,32 +1,79 @@
-// Reading.
-ghost use Rattle.std.specs.Prelude.{◌≡◌, ◌+◌, ◌-◌, ◌<◌, ◌≤◌, true, length, Some as already, None as untold, ◌≢◌};
-ghost use Rattle.stream.specs.Told.{Next, Falls};
-ghost use Rattle.stream.specs.declared.answer.Answer.TheVariants.{End as told_end};
-ghost use Rattle.syntax.specs.Openings.{openings_of};
+// How far a template is read.
+ghost use Rattle.std.specs.Prelude.{◌≡◌, ◌+◌, ◌-◌, ◌<◌, ◌≤◌, true, length, Some as already, None as untold};
+ghost use Rattle.places.specs.Places.{capped};
 ghost use Rattle.rules.specs.At.{core_at, place_at, part_at, cut_part};
-ghost use Rattle.rules.specs.Reading.{act, balance_at, meaning, Unread};
-ghost use Rattle.rules.specs.Shapes.{Forward, Fits};
-ghost use Rattle.rules.specs.Texts.{verdict as ruled, AllReal};
+ghost use Rattle.rules.specs.Config.{config_of};
+ghost use Rattle.rules.specs.Reading.{act, balance_at};
+ghost use Rattle.rules.specs.Shapes.{held, least, level, magnitude, Forward, Fits};
 ghost use Rattle.rules.specs.Told.{placed, fault_span};
-ghost use Rattle.reader.specs.Views.{view_of, config, tell_by, tell, items_of, ending_of, left_of, Lawful};
 
+use super::chop::left_len;
 use super::parts::{balance_at, fault_span, text_range};
-use super::reader::Reader;
-use super::verdicts::verdict_at;
 use byte_search::{after, until};
-use finder::Finder;
-use pieces::{FaultKind, Kind, Piece, ReadFault};
-use places::Span;
-use rules::{Step, Verdict};
-use stream::{Answer, Ending, Stream};
+use pieces::{Kind, Piece, ReadFault};
+use places::{Place, Span};
+use rules::{Fault, LexerState, Pending, Step, Verdict};
+use stream::Ending;
+use syntax::Settings;
 
-impl<'t> Reader<'t> {
+// A template, how far it is read, what waits there, and what was told.
+#[derive(Drop)]
+pub struct Reading<'t> {
+    pub(crate) template: &'t [u8],
+    // how many bytes are left after the cut; all of them once the cut is told
+    pub(crate) left: usize,
+    // how many bytes are read
+    pub(crate) offset: usize,
+    // the place behind them
+    pub(crate) place: Place,
+    pub(crate) state: LexerState,
+    pub(crate) pending: Pending,
+    // brackets that were opened, less those that were closed
+    pub(crate) balance: i64,
+    // whether the cut was told
+    pub(crate) cut_told: bool,
+    // the ending, once it was told
+    pub(crate) told: Option<Ending<ReadFault>>,
+    ghost small: { length template.now ≤ 16777216 },
+    ghost within: { left ≤ length template.now },
+    ghost inside: { offset + held pending ≤ left },
+    ghost lively: { 0 < least pending },
+    ghost shallow: { level state ≤ offset },
+    ghost balanced: { magnitude balance ≤ offset },
+    ghost agrees: { balance_at balance state ≡ balance },
+    ghost here: { place ≡ capped (place_at template.now offset) },
+}
+
+impl<'t> Reading<'t> {
+    ghost use Rattle.reader.specs.Opens.{Leaves};
+    ghost use Rattle.reader.specs.Views.{view, told_as, tell_by, unread};
+
+    // The start of a template, which starts in this state.
+    pub(crate) fn start(settings: &Settings, state: LexerState, template: &'t [u8]) -> Reading<'t>
+        requires small { length template.now ≤ 16777216 }
+        requires flat { level state ≡ 0 }
+        ensures template { result.template.now ≡ template.now }
+        ensures view { view result ≡ unread (config_of settings.now) state template.now }
+        ensures leaves { Leaves (config_of settings.now).keep_trailing template.now (view result).core.ahead }
+    {
+        Reading {
+            template,
+            left: left_len(settings, template),
+            offset: 0,
+            place: Place::start(),
+            state,
+            pending: Pending::Nothing,
+            balance: 0,
+            cut_told: false,
+            told: None,
+        }
+    }
+
     // Takes a piece off the bytes ahead.
     fn take_step(&mut self, step: Step) -> Piece
         requires { Forward (self.old.left - self.old.offset) self.old.state self.old.pending step }
         ensures piece { result ≡ placed (place_at self.old.template.now self.old.offset) (part_at self.old.template.now self.old.offset step) }
-        ensures view { view_of self.new ≡ record { core = core_at self.old.template.now self.old.left (self.old.offset + step.len) step.state step.pending self.old.cut_told; place = place_at self.old.template.now (self.old.offset + step.len); balance = balance_at self.old.balance step.state; told = self.old.told } }
-        ensures settings { self.new.settings ≡ self.old.settings }
+        ensures view { view self.new ≡ record { core = core_at self.old.template.now self.old.left (self.old.offset + step.len) step.state step.pending self.old.cut_told; place = place_at self.old.template.now (self.old.offset + step.len); balance = balance_at self.old.balance step.state; told = self.old.told } }
     {
         let offset = self.offset;
         let start = self.place;
@@ -50,8 +97,7 @@ impl<'t> Reader<'t> {
     fn take_cut(&mut self) -> Piece
         requires { self.old.offset ≡ self.old.left }
         ensures piece { result ≡ placed (place_at self.old.template.now self.old.offset) (cut_part self.old.template.now self.old.left) }
-        ensures view { view_of self.new ≡ record { core = core_at self.old.template.now (length self.old.template.now) (length self.old.template.now) self.old.state self.old.pending true; place = place_at self.old.template.now (length self.old.template.now); balance = self.old.balance; told = self.old.told } }
-        ensures settings { self.new.settings ≡ self.old.settings }
+        ensures view { view self.new ≡ record { core = core_at self.old.template.now (length self.old.template.now) (length self.old.template.now) self.old.state self.old.pending true; place = place_at self.old.template.now (length self.old.template.now); balance = self.old.balance; told = self.old.told } }
     {
         let offset = self.offset;
         let len = self.template.len();
@@ -71,101 +117,48 @@ impl<'t> Reader<'t> {
     }
 
     // Tells an ending, which is kept.
-    fn end(&mut self, ending: Ending<ReadFault>) -> Answer<Piece, Ending<ReadFault>>
-        ensures value { result ≡ told_end ending }
-        ensures view { view_of self.new ≡ record { core = (view_of self.old).core; place = (view_of self.old).place; balance = self.old.balance; told = already ending } }
-        ensures settings { self.new.settings ≡ self.old.settings }
+    fn end(&mut self, ending: Ending<ReadFault>) -> Result<Option<Piece>, ReadFault>
+        ensures value { result ≡ told_as ending }
+        ensures view { view self.new ≡ record { core = (view self.old).core; place = (view self.old).place; balance = self.old.balance; told = already ending } }
     {
         self.told = Some(ending);
-        Answer::End(ending)
+        ending?;
+        Ok(None)
     }
 
-    // The fault of this kind that is seen so many bytes ahead.
-    fn fault(&self, kind: FaultKind, distance: usize) -> ReadFault
-        requires { distance ≤ self.now.left - self.now.offset }
-        ensures { result ≡ record { kind = kind; span = fault_span kind (place_at self.now.template.now self.now.offset) (place_at self.now.template.now (self.now.offset + distance)) } }
+    // A fault at its place.
+    fn fault(&self, fault: Fault) -> ReadFault
+        requires { fault.distance ≤ self.now.left - self.now.offset }
+        ensures { result ≡ record { kind = fault.kind; span = fault_span fault.kind (place_at self.now.template.now self.now.offset) (place_at self.now.template.now (self.now.offset + fault.distance)) } }
     {
         let end = self
             .place
-            .advance(until(after(self.template, self.offset), distance));
+            .advance(until(after(self.template, self.offset), fault.distance));
         ReadFault {
-            kind,
-            span: fault_span(kind, self.place, end),
+            kind: fault.kind,
+            span: fault_span(fault.kind, self.place, end),
         }
     }
 
     // Does what the rules say: takes a piece off, or the cut, or tells the ending.
-    fn answer(&mut self, verdict: Verdict) -> Answer<Piece, Ending<ReadFault>>
+    pub(crate) fn answer(&mut self, verdict: Verdict) -> Result<Option<Piece>, ReadFault>
         requires fits { Fits (self.old.left - self.old.offset) self.old.state self.old.pending verdict }
         requires untold { self.old.told ≡ untold }
-        ensures value { result ≡ (tell_by (view_of self.old) (act (view_of self.old).core verdict)).answer }
-        ensures view { view_of self.new ≡ (tell_by (view_of self.old) (act (view_of self.old).core verdict)).after }
-        ensures settings { self.new.settings ≡ self.old.settings }
+        ensures value { result ≡ (tell_by (view self.old) (act (view self.old).core verdict)).answer }
+        ensures view { view self.new ≡ (tell_by (view self.old) (act (view self.old).core verdict)).after }
     {
         match verdict {
-            Verdict::Piece(step) => Answer::Item(self.take_step(step)),
-            Verdict::End => {
+            Ok(Some(step)) => Ok(Some(self.take_step(step))),
+            Ok(None) => {
                 if self.left < self.template.len() {
-                    return Answer::Item(self.take_cut());
+                    return Ok(Some(self.take_cut()));
                 }
-                self.end(Ending::Finished)
+                self.end(Ok(()))
             }
-            Verdict::Fault(kind, distance) => {
-                let fault = self.fault(kind, distance);
-                self.end(Ending::Failed(fault))
-            }
-        }
-    }
-
-    // What the rules say of the bytes ahead.
-    fn verdict<F: Finder>(&self, finder: &F) -> Verdict
-        ensures value { result ≡ ruled (F.Finder.openings finder.now) (config self.now) (view_of self.now).core }
-        ensures fits { Fits (self.now.left - self.now.offset) self.now.state self.now.pending result }
-    {
-        verdict_at(
-            &self.settings,
-            finder,
-            until(self.template, self.left),
-            self.offset,
-            self.state,
-            self.pending,
-        )
-    }
-
-    // The next piece, or the ending, which is told again at every later call: what the rules tell with the finder's openings.
-    pub fn next_piece<F: Finder>(&mut self, finder: &F) -> Answer<Piece, Ending<ReadFault>>
-        ensures value { result ≡ (tell (F.Finder.openings finder.now) (config self.old) (view_of self.old)).answer }
-        ensures view { view_of self.new ≡ (tell (F.Finder.openings finder.now) (config self.old) (view_of self.old)).after }
-        ensures settings { self.new.settings ≡ self.old.settings }
-        ensures ends { (meaning (openings_of self.old.settings) (config self.old) (view_of self.old).core).stop ≢ Unread }
-        ensures real { AllReal (openings_of self.old.settings) }
-        ensures lawful { Lawful self.old (F.Finder.openings finder.now) → result ≡ (tell (openings_of self.old.settings) (config self.old) (view_of self.old)).answer }
-    {
-        match self.told {
-            Some(ending) => Answer::End(ending),
-            None => {
-                let verdict = self.verdict(finder);
-                self.answer(verdict)
+            Err(fault) => {
+                let fault = self.fault(fault);
+                self.end(Err(fault))
             }
         }
-    }
-}
-
-// A reader means the pieces still to come and how they end; a call is answered by that where the finder's openings are those of the settings.
-impl<'t> Stream for Reader<'t> {
-    type Item = Piece;
-
-    type Ending = Ending<ReadFault>;
-
-    ghost items = { λ r. items_of (openings_of r.settings) (config r) (view_of r) };
-
-    ghost ending = { λ r. ending_of (openings_of r.settings) (config r) (view_of r) };
-
-    ghost serves = { Lawful };
-
-    ghost left = { λ r. left_of (view_of r) };
-
-    fn next<F: Finder>(&mut self, finder: &F) -> Answer<Piece, Ending<ReadFault>> {
-        self.next_piece(finder)
     }
 }

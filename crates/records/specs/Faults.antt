@@ -1,5 +1,6 @@
 -- The numbers, indices and names of refusals of records.
-use Rattle.std.specs.Prelude.{ℕ, List, Some, None, codes, Option}
+use Rattle.std.specs.Prelude.{ℕ, List, ◌++◌, Some, None, codes, Option}
+use Rattle.std.specs.Fmt.{decimal}
 use Rattle.records.specs.declared.fault.RecordFault.{RecordFault}
 use Rattle.records.specs.declared.fault.RecordFault.TheVariants.{BadRange, TooEarly}
 
@@ -17,3 +18,8 @@ index_of (TooEarly i) = Some i
 abbrev pub name_of : RecordFault → List ℕ
 name_of BadRange = codes "bad range"
 name_of (TooEarly i) = codes "records do not rise"
+
+-- a refusal as it is shown: its name, and where one record is too early, the record
+abbrev pub fault_text : RecordFault → List ℕ
+fault_text BadRange = name_of BadRange
+fault_text (TooEarly i) = name_of (TooEarly i) ++ codes " at record " ++ decimal i

@@ -1,5 +1,6 @@
 -- Which records are taken: ranges inside the template, and records that rise.
-use Rattle.std.specs.Prelude.{ℕ, ◌<◌, ◌≤◌, Bool, true, false, ◌&&◌, List, [], ◌∷◌, length, Some, None, Option, nat_le, slice_index_or}
+use Rattle.std.specs.Prelude.{ℕ, ◌<◌, ◌≤◌, Bool, true, false, ◌&&◌, List, length, Some, None, Option, nat_le, slice_index_or}
+use Rattle.std.specs.List.{list_all}
 use Rattle.pieces.specs.declared.piece.Piece.{Piece}
 use Rattle.pieces.specs.Ranges.{begins, ends}
 use Rattle.ranged.specs.Ranges.{first_too_early, Told}
@@ -15,9 +16,8 @@ abbrev pub is_good : ℕ → Piece → Bool
 is_good n p = fits n (begins p) (ends p) && fits n p.text.start p.text.end
 
 -- those of all records are
-unfoldable pub all_good : ℕ → List Piece → Bool
-all_good n [] = true
-all_good n (p ∷ ps) = elim (is_good n p) [ true ↦ all_good n ps | false ↦ false ]
+abbrev pub all_good : ℕ → List Piece → Bool
+all_good n ps = list_all (is_good n) ps
 
 -- the fault of a record that is too early
 abbrev pub early : Option ℕ → Option RecordFault

@@ -1,5 +1,5 @@
 -- The token that a record with its template gives.
-use Rattle.std.specs.Prelude.{ℕ, ◌-◌, List, take, drop, Option}
+use Rattle.std.specs.Prelude.{ℕ, List, Option, slice_range}
 use Rattle.pieces.specs.declared.kind.Operator.{Operator}
 use Rattle.pieces.specs.declared.kind.Kind.{Kind}
 use Rattle.pieces.specs.declared.kind.Kind.TheVariants as kind
@@ -73,10 +73,6 @@ token_of kind.RawOpen xs v = raw_open xs
 token_of kind.RawClose xs v = raw_close xs
 token_of kind.Cut xs v = cut xs
 
--- the bytes from a up to, and without, b
-abbrev pub part : List ℕ → ℕ → ℕ → List ℕ
-part xs a b = take (b - a) (drop a xs)
-
 -- the token of a record: of its kind, with the bytes that its text range names and its value
 abbrev pub record_token : List ℕ → Piece → Shown
-record_token xs p = token_of p.kind (part xs p.text.start p.text.end) p.value
+record_token xs p = token_of p.kind (slice_range xs p.text.start p.text.end) p.value

@@ -1,9 +1,12 @@
 // Why records are refused.
-ghost use Rattle.std.specs.Prelude.{◌≡◌};
-ghost use Rattle.records.specs.Faults.{number_of, index_of, name_of};
+ghost use Rattle.std.specs.Prelude.{◌≡◌, Some};
+ghost use Rattle.records.specs.Faults.{number_of, index_of, name_of, fault_text};
+
+use std::error::Error;
+use std::fmt;
 
 // What is wrong with records.
-#[derive(Clone, Copy)]
+#[derive(Clone, Copy, Debug, PartialEq, Eq)]
 pub enum RecordFault {
     // a range leaves the template or runs backwards
     BadRange,
@@ -42,3 +45,18 @@ impl RecordFault {
         }
     }
 }
+
+// Shown by its name, and where one record is too early, by the record.
+impl fmt::Display for RecordFault {
+    ghost output = { λ f. Some (fault_text f) };
+
+    fn fmt<W: fmt::Write>(&self, f: &mut fmt::Formatter<W>) -> fmt::Result {
+        let name = self.name();
+        match *self {
+            RecordFault::BadRange => f.write_str(name),
+            RecordFault::TooEarly(index) => write!(f, "{name} at record {index}"),
+        }
+    }
+}
+
+impl Error for RecordFault {}

@@ -1,6 +1,6 @@
 // Ranges of a template.
-ghost use Rattle.std.specs.Prelude.{◌≡◌};
-ghost use Rattle.records.specs.Taken.{fits as inside, is_good, all_good};
+ghost use Rattle.std.specs.Prelude.{◌≡◌, false};
+ghost use Rattle.records.specs.Taken.{fits as inside, is_good, all_good, SomeBad};
 
 use pieces::Piece;
 
@@ -21,12 +21,8 @@ pub(super) fn is_good(len: usize, piece: Piece) -> bool
 
 // Whether those of all records are.
 pub(super) fn all_good(len: usize, pieces: &[Piece]) -> bool
-    ensures { result ≡ all_good len pieces.now }
+    ensures value { result ≡ all_good len pieces.now }
+    ensures bad { result ≡ false → SomeBad len pieces.now }
 {
-    for piece in pieces {
-        if !is_good(len, *piece) {
-            return false;
-        }
-    }
-    true
+    pieces.iter().all(|piece| is_good(len, *piece))
 }

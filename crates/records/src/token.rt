@@ -1,16 +1,15 @@
 // Tokens that borrow from the template.
-ghost use Rattle.std.specs.Prelude.{◌≡◌, ◌≤◌, true, false, length, Ok, Err};
+ghost use Rattle.std.specs.Prelude.{◌≡◌, true, false, length, Ok, Err};
 ghost use Rattle.records.specs.declared.fault.RecordFault.TheVariants.{BadRange as bad_range};
 ghost use Rattle.records.specs.Taken.{is_good, Good};
-ghost use Rattle.records.specs.Tokens.{shown, token_of, part as between, record_token};
+ghost use Rattle.records.specs.Tokens.{shown, token_of, record_token};
 
 use super::fault::RecordFault;
 use super::range::is_good;
-use byte_search::{after, until};
 use pieces::{Kind, Operator, Piece};
 
 // A piece with its text.
-#[derive(Clone, Copy)]
+#[derive(Clone, Copy, Debug, PartialEq, Eq)]
 pub enum Token<'t> {
     Text(&'t [u8]),
     RawText(&'t [u8]),
@@ -64,14 +63,6 @@ fn of_kind(kind: Kind, text: &[u8], value: Option<u64>) -> Token<'_>
     }
 }
 
-// The bytes from `start` up to, and without, `end`.
-fn part(s: &[u8], start: u32, end: u32) -> &[u8]
-    requires { start ≤ end }
-    ensures { result.now ≡ between s.now start end }
-{
-    until(after(s, start as usize), (end - start) as usize)
-}
-
 impl<'t> Token<'t> {
     // The token of a record of a template; refused where a range of the record is bad.
     pub fn new(template: &'t [u8], piece: Piece) -> Result<Token<'t>, RecordFault>
@@ -81,10 +72,7 @@ impl<'t> Token<'t> {
         if !is_good(template.len(), piece) {
             return Err(RecordFault::BadRange);
         }
-        Ok(of_kind(
-            piece.kind,
-            part(template, piece.text.start, piece.text.end),
-            piece.value,
-        ))
+        let text = &template[piece.text.start as usize..piece.text.end as usize];
+        Ok(of_kind(piece.kind, text, piece.value))
     }
 }

@@ -5,8 +5,9 @@
 
 #![tactic(auto)]
 
-use anyhow::anyhow;
+use anyhow::{Context, anyhow};
 use decode::{DecodeError, decode_to_vec};
+use escape::DecodeFault;
 use hex_fields::field;
 use std::alloc::Global;
 use std::io::Read;
@@ -21,10 +22,8 @@ enum Wanted {
 
 // The recorded answer: its mark, and the bytes behind it.
 fn read_answer(heap: Global, answer: &str) -> anyhow::Result<Wanted> {
-    if answer == "!" {
-        return Ok(Wanted::Refusal);
-    }
     match answer.split_once(' ') {
+        None if answer == "!" => Ok(Wanted::Refusal),
         Some(("=", hex)) => Ok(Wanted::Bytes(field(heap, hex.as_bytes())?)),
         Some(("~", _)) => Ok(Wanted::SignRefused),
         _ => Err(anyhow!("no such mark")),
@@ -32,7 +31,7 @@ fn read_answer(heap: Global, answer: &str) -> anyhow::Result<Wanted> {
 }
 
 // How our answer stands to the recorded one.
-#[derive(Clone, Copy, PartialEq)]
+#[derive(Clone, Copy, Debug, PartialEq, Eq)]
 enum Outcome {
     Agreed,
     SignAsDigit,
@@ -42,34 +41,26 @@ enum Outcome {
 // Decodes a text, and compares with what was recorded.
 fn compare(heap: Global, text: &[u8], recorded: &Wanted) -> anyhow::Result<Outcome> {
     match (decode_to_vec(heap, text), recorded) {
-        (Ok(ours), Wanted::Bytes(theirs)) if ours.as_slice() == theirs.as_slice() => Ok(
-            Outcome::Agreed,
-        ),
-        (Err(DecodeError::Fault(fault)), Wanted::Refusal) if fault.number() == 15 => Ok(
-            Outcome::Agreed,
-        ),
-        (Err(DecodeError::Fault(fault)), Wanted::SignRefused) if fault.number() == 15 => Ok(
+        (Ok(ours), Wanted::Bytes(theirs)) if ours == *theirs => Ok(Outcome::Agreed),
+        (Err(DecodeError::Fault(DecodeFault::Escape(_))), Wanted::Refusal) => Ok(Outcome::Agreed),
+        (Err(DecodeError::Fault(DecodeFault::Escape(_))), Wanted::SignRefused) => Ok(
             Outcome::SignAsDigit,
         ),
-        (Err(DecodeError::NoMemory), _) => Err(anyhow!("no memory")),
+        (Err(error @ DecodeError::NoMemory), _) => Err(error.into()),
         _ => Ok(Outcome::Unknown),
     }
 }
 
 // Replays one line.
 fn replay_line(heap: Global, line: &str) -> anyhow::Result<Outcome> {
-    match line.split_once(' ') {
-        Some((text, answer)) => {
-            let recorded = read_answer(heap, answer)?;
-            compare(heap, field(heap, text.as_bytes())?.as_slice(), &recorded)
-        }
-        None => Err(anyhow!("no answer on the line")),
-    }
+    let (text, answer) = line.split_once(' ').context("no answer on the line")?;
+    let recorded = read_answer(heap, answer)?;
+    compare(heap, &field(heap, text.as_bytes())?, &recorded)
 }
 
-fn run(rt: &HostRuntime) -> anyhow::Result<()> {
+fn run(rt: &(impl AllocGlobal + Input + Print)) -> anyhow::Result<()> {
     let mut input = Vec::new(rt.alloc());
-    rt.stdin().read_to_end(&mut input)?;
+    rt.reader().read_to_end(&mut input)?;
     let (mut agreed, mut signs, mut unknown) = (0u64, 0u64, 0u64);
     for line in std::str::from_utf8(input.as_slice())?.lines() {
         match replay_line(rt.alloc(), line)? {

@@ -1,13 +1,11 @@
 -- One call of a reading: how many calls are allowed does not matter, if they are enough.
-use Rattle.std.proofs.Common.{◌≡◌, ℕ, zero, suc, ◌<◌, List, [], ◌∷◌, length, sym, refl, ap, ◌∙◌, arith}
+use Rattle.std.proofs.Common.{◌≡◌, ℕ, zero, suc, ◌<◌, List, [], ◌∷◌, length, sym, refl, ap, ◌∙◌, arith, Some, None, Ok, Err}
 use Rattle.std.proofs.lemmas.List.{length-drop}
 use Rattle.finder.specs.Finding.{Opening}
-use Rattle.rules.specs.declared.Verdict.{Verdict}
-use Rattle.rules.specs.declared.Verdict.TheVariants.{Piece, End, Fault}
 use Rattle.rules.specs.Config.{Config, Ended}
 use Rattle.rules.specs.Reading.{Unread, Call, Gives, Stops, finish, act, call, Parts, first, only, go_on, reading, cut_rank, measure, meaning}
 use Rattle.rules.specs.Shapes.{Fits}
-use Rattle.rules.specs.State.{Core}
+use Rattle.rules.specs.State.{Core, Verdict}
 use Rattle.rules.specs.Texts.{verdict}
 use Rattle.rules.proofs.Inside.{Fine}
 use Rattle.rules.proofs.Outside.{verdict_fits}
@@ -26,13 +24,13 @@ finish_steps c [] e f = tt
 finish_steps c (x ∷ xs) e f = let h = ap cut_rank e in (omega arith, f)
 
 pub act_steps : (c : Core) (v : Verdict) → FineAt c → Fits (length c.ahead) c.state c.pending v → Steps c (act c v)
-act_steps c (Piece p) f h =
+act_steps c (Ok (Some p)) f h =
     let l = length-drop p.len c.ahead in
     let a = h.ahead in
     let b = h.falls in
     (omega arith, (h.lively, omega arith))
-act_steps c End f h = finish_steps c c.cut refl f
-act_steps c (Fault k d) f h = tt
+act_steps c (Ok None) f h = finish_steps c c.cut refl f
+act_steps c (Err q) f h = tt
 
 -- two ways to go on that agree on what is smaller
 alike : (F G : Core → Parts) (c : Core) → ((e : Core) → measure e < measure c → FineAt e → F e ≡ G e) → (r : Call) → Steps c r → go_on F r ≡ go_on G r
@@ -77,9 +75,9 @@ module _ (os : List Opening) (s : Config) (ended : Ended s) where
 
   act_ends : (F : Core → Parts) (c : Core) → Goes F c → FineAt c → (v : Verdict) → Fits (length c.ahead) c.state c.pending v → (go_on F (act c v)).stop ≡ Unread → ⊥
   unfolding Goes
-  act_ends F c h f (Piece p) g u = let m = act_steps c (Piece p) f g in h _ m.0 m.1 u
-  act_ends F c h f End g u = finish_ends F c h f c.cut refl u
-  act_ends F c h f (Fault k d) g u = let z : ◌≡◌ {A = ℕ} 0 1 = cc in omega arith
+  act_ends F c h f (Ok (Some p)) g u = let m = act_steps c (Ok (Some p)) f g in h _ m.0 m.1 u
+  act_ends F c h f (Ok None) g u = finish_ends F c h f c.cut refl u
+  act_ends F c h f (Err q) g u = let z : ◌≡◌ {A = ℕ} 0 1 = cc in omega arith
 
   -- enough calls never stop unread
   reading_ends : (n : ℕ) (c : Core) → measure c < n → FineAt c → (reading n os s c).stop ≡ Unread → ⊥

@@ -24,16 +24,14 @@ use Rattle.rules.specs.declared.NumberState.{NumberState}
 use Rattle.rules.specs.declared.NumberState.TheVariants.{RadixInteger, Integer, Fraction, Exponent, ExponentSign, ExponentDigits}
 use Rattle.rules.specs.declared.Pending.{Pending}
 use Rattle.rules.specs.declared.Pending.TheVariants.{Nothing}
-use Rattle.rules.specs.declared.Verdict.{Verdict}
-use Rattle.rules.specs.declared.Verdict.TheVariants.{Fault}
-use Rattle.rules.specs.declared.Whitespace.{Whitespace}
-use Rattle.rules.specs.declared.Whitespace.TheVariants.{Default, Preserve, Remove}
+use Rattle.rules.specs.declared.whitespace.Whitespace.{Whitespace}
+use Rattle.rules.specs.declared.whitespace.Whitespace.TheVariants.{Default, Preserve, Remove}
 use Rattle.rules.specs.Config.{Config, Ended, inline_white}
 use Rattle.rules.specs.Bytes.{is_digit, is_sign, sign_of, leads_name, is_name_part, run, last_is}
 use Rattle.rules.specs.Numbers.{base_of, turn, scan, Scanned, longer, value_of, integer, number_by, scanned, number}
 use Rattle.rules.specs.Reading.{wait_rank}
 use Rattle.rules.specs.Shapes.{held, least, magnitude, Fits}
-use Rattle.rules.specs.State.{told, plain}
+use Rattle.rules.specs.State.{told, plain, Verdict, fault}
 use Rattle.rules.specs.Strings.{quote_end, decoded, string_of, string}
 use Rattle.rules.specs.Tags.{tail_of, tail, operators, first_standing, weight, dot_behind, literal, token_by, token, end_of, trim_by, closing, closes, close_by, is_zero, close, blanks, line_rest, statement_end, tag_end, tag_verdict}
 use Rattle.rules.proofs.Lengths.{run_le, blank_le, white_le, line_end_le, Below, quote_le, scan_le}
@@ -133,9 +131,9 @@ module _ (s : Config) (b : ℤ) (w : Pending) where
   integer_fits : (k : BlockSentinel) (n l : ℕ) (v : Option ℕ) → 0 < n → n ≤ l → Fits l (Inside k b) w (integer n (Inside k b) v)
   integer_fits k n l None p h = h
   integer_fits k n l (Some v) p h =
-      elim (ltb v (2 ^ 64)) as (λ t. Fits l (Inside k b) w (elim t [ true ↦ told Int n 0 n (Some v) (Inside k b) Nothing | false ↦ elim (ltb v (2 ^ 128)) [ true ↦ plain Big n (Inside k b) Nothing | false ↦ Fault BadInteger n ] ])) [
+      elim (ltb v (2 ^ 64)) as (λ t. Fits l (Inside k b) w (elim t [ true ↦ told Int n 0 n (Some v) (Inside k b) Nothing | false ↦ elim (ltb v (2 ^ 128)) [ true ↦ plain Big n (Inside k b) Nothing | false ↦ fault BadInteger n ] ])) [
         | true ↦ record { ahead = omega arith; lively = omega arith; ordered = omega arith; inside = omega arith; falls = omega arith; level = omega arith }
-        | false ↦ elim (ltb v (2 ^ 128)) as (λ t. Fits l (Inside k b) w (elim t [ true ↦ plain Big n (Inside k b) Nothing | false ↦ Fault BadInteger n ])) [ true ↦ stays k Big n l p h | false ↦ h ]
+        | false ↦ elim (ltb v (2 ^ 128)) as (λ t. Fits l (Inside k b) w (elim t [ true ↦ plain Big n (Inside k b) Nothing | false ↦ fault BadInteger n ])) [ true ↦ stays k Big n l p h | false ↦ h ]
       ]
 
   number_by_fits : (q : NumberState) (base : ℕ) (k : BlockSentinel) (n l : ℕ) (xs : List ℕ) → 0 < n → n ≤ l → Fits l (Inside k b) w (number_by q base n (Inside k b) xs)
@@ -148,7 +146,7 @@ module _ (s : Config) (b : ℤ) (w : Pending) where
 
   scanned_fits : (base skip : ℕ) (k : BlockSentinel) (l : ℕ) (xs : List ℕ) (r : Scanned) → 0 < skip + r.0 → skip + r.0 ≤ l → Fits l (Inside k b) w (scanned base skip (Inside k b) xs r)
   scanned_fits base skip k l xs r p h =
-      elim (last_is 95 (take r.0 xs)) as (λ t. Fits l (Inside k b) w (elim t [ true ↦ Fault TrailingUnderscore (skip + r.0) | false ↦ number_by r.1 base (skip + r.0) (Inside k b) (take r.0 xs) ])) [
+      elim (last_is 95 (take r.0 xs)) as (λ t. Fits l (Inside k b) w (elim t [ true ↦ fault TrailingUnderscore (skip + r.0) | false ↦ number_by r.1 base (skip + r.0) (Inside k b) (take r.0 xs) ])) [
         | true ↦ h
         | false ↦ number_by_fits r.1 base k (skip + r.0) l (take r.0 xs) p h
       ]
@@ -192,7 +190,7 @@ module _ (s : Config) (b : ℤ) (w : Pending) where
         | Some j ↦ decoded_fits k (length xs) l (decoded_len xs) h
       ]
 
-  string_by_fits : (k : BlockSentinel) (xs : List ℕ) (r : Option ℕ) → Below xs r → Fits (suc (length xs)) (Inside k b) w (elim r [ None ↦ Fault UnendedString (suc (length xs)) | Some n ↦ string_of (Inside k b) (take n xs) ])
+  string_by_fits : (k : BlockSentinel) (xs : List ℕ) (r : Option ℕ) → Below xs r → Fits (suc (length xs)) (Inside k b) w (elim r [ None ↦ fault UnendedString (suc (length xs)) | Some n ↦ string_of (Inside k b) (take n xs) ])
   string_by_fits k xs None h = omega arith
   string_by_fits k xs (Some n) h = let l = length-take n xs in string_of_fits k (suc (length xs)) (take n xs) (omega arith)
 
@@ -207,7 +205,7 @@ module _ (s : Config) (b : ℤ) (w : Pending) where
   literal_fits : (behind : List ℕ) (k : BlockSentinel) (x : ℕ) (xs : List ℕ) → Fits (length (x ∷ xs)) (Inside k b) w (literal behind (Inside k b) x xs)
   unfolding literal
   literal_fits behind k x xs =
-      let third : Verdict = elim (leads_name x) [ true ↦ plain Ident (run is_name_part (x ∷ xs)) (Inside k b) Nothing | false ↦ Fault NoToken 0 ] in
+      let third : Verdict = elim (leads_name x) [ true ↦ plain Ident (run is_name_part (x ∷ xs)) (Inside k b) Nothing | false ↦ fault NoToken 0 ] in
       let second : Verdict = elim (is_digit x) [ true ↦ number (dot_behind behind) (Inside k b) (x ∷ xs) | false ↦ third ] in
       let P : Verdict → Type 0 = λ v. Fits (length (x ∷ xs)) (Inside k b) w v in
       ⊎_elim
@@ -217,8 +215,8 @@ module _ (s : Config) (b : ℤ) (w : Pending) where
       (λ f. subst (λ t. P (elim t [ true ↦ number (dot_behind behind) (Inside k b) (x ∷ xs) | false ↦ third ])) (sym f) (number_fits (dot_behind behind) k x xs f))
       (λ f. subst (λ t. P (elim t [ true ↦ number (dot_behind behind) (Inside k b) (x ∷ xs) | false ↦ third ])) (sym f)
       (⊎_elim
-      (λ g. subst (λ t. P (elim t [ true ↦ plain Ident (run is_name_part (x ∷ xs)) (Inside k b) Nothing | false ↦ Fault NoToken 0 ])) (sym g) (stays s b w k Ident (run is_name_part (x ∷ xs)) (length (x ∷ xs)) (name_some x xs g) (run_le is_name_part (x ∷ xs))))
-      (λ g. subst (λ t. P (elim t [ true ↦ plain Ident (run is_name_part (x ∷ xs)) (Inside k b) Nothing | false ↦ Fault NoToken 0 ])) (sym g) (omega arith))
+      (λ g. subst (λ t. P (elim t [ true ↦ plain Ident (run is_name_part (x ∷ xs)) (Inside k b) Nothing | false ↦ fault NoToken 0 ])) (sym g) (stays s b w k Ident (run is_name_part (x ∷ xs)) (length (x ∷ xs)) (name_some x xs g) (run_le is_name_part (x ∷ xs))))
+      (λ g. subst (λ t. P (elim t [ true ↦ plain Ident (run is_name_part (x ∷ xs)) (Inside k b) Nothing | false ↦ fault NoToken 0 ])) (sym g) (omega arith))
       (cases_Bool (leads_name x))))
       (cases_Bool (is_digit x))))
       (cases_Bool (eqb x 34 || eqb x 39))

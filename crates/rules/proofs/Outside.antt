@@ -15,13 +15,12 @@ use Rattle.rules.specs.declared.LexerState.{LexerState}
 use Rattle.rules.specs.declared.LexerState.TheVariants.{Template, Inside, Over}
 use Rattle.rules.specs.declared.Pending.{Pending}
 use Rattle.rules.specs.declared.Pending.TheVariants.{Nothing, Trim, Tail, Marker, RawBody, RawClose}
-use Rattle.rules.specs.declared.Verdict.TheVariants.{Fault}
-use Rattle.rules.specs.declared.Whitespace.{Whitespace}
-use Rattle.rules.specs.declared.Whitespace.TheVariants.{Default, Preserve, Remove}
+use Rattle.rules.specs.declared.whitespace.Whitespace.{Whitespace}
+use Rattle.rules.specs.declared.whitespace.Whitespace.TheVariants.{Default, Preserve, Remove}
 use Rattle.rules.specs.Config.{Config, Ended, white, inline_white}
 use Rattle.rules.specs.Bytes.{is_sign, sign_of, sign_at, sign_len, in_line, run, pushes}
 use Rattle.rules.specs.Shapes.{Fits}
-use Rattle.rules.specs.State.{Core}
+use Rattle.rules.specs.State.{Core, fault}
 use Rattle.rules.specs.Texts.{due, left_over, stripped, lead, Basic, basic_end, basic_tag, raw_name, endraw_name, closer_by, closer_at, Far, away, find_closer, raw_from, raw_to, raw_text_by, raw_body, closing_sign, comment_by, comment, line_comment_here, block_by, opened, gap_then, lead_then, opening_sign, met, real, text, trimmed, text_verdict, over_verdict, verdict_by, verdict}
 use Rattle.rules.proofs.Lengths.{run_le, blank_le, white_le, kept_within, line_end_le, Reached, distance_le, Within, found_within}
 use Rattle.rules.proofs.Inside.{Fine, tailed, tag_fits}
@@ -160,7 +159,7 @@ raw_to_le s Preserve behind xs = omega arith
 raw_to_le s Default behind xs = stripped_le (due s Block behind) s xs
 
 raw_by_fits : (s : Config) (g : Whitespace) (behind xs : List ℕ) (r : Option Far) → ClosesFar (length xs) r
-    → Fits (length xs) Template (RawBody g) (elim r [ None ↦ Fault Rattle.pieces.specs.declared.fault.FaultKind.TheVariants.UnendedRaw (length xs) | Some e ↦ raw_text_by s g behind (take e.0 xs) e.1 ])
+    → Fits (length xs) Template (RawBody g) (elim r [ None ↦ fault Rattle.pieces.specs.declared.fault.FaultKind.TheVariants.UnendedRaw (length xs) | Some e ↦ raw_text_by s g behind (take e.0 xs) e.1 ])
 raw_by_fits s g behind xs None h = omega arith
 raw_by_fits s g behind xs (Some e) h =
     let body : List ℕ = take e.0 xs in

@@ -1,5 +1,5 @@
 -- A reading at a place of a template: what one call takes off.
-use Rattle.std.proofs.Common.{◌≡◌, ℕ, ◌+◌, ◌-◌, ◌<◌, ◌≤◌, Bool, true, List, [], ◌∷◌, ◌++◌, length, take, drop, None, sym, refl, ap, ◌∙◌, arith, take-add}
+use Rattle.std.proofs.Common.{◌≡◌, ℕ, ◌+◌, ◌-◌, ◌<◌, ◌≤◌, Bool, true, List, [], ◌∷◌, ◌++◌, length, take, drop, None, sym, refl, ap, ◌∙◌, arith, take-add, Some, Ok}
 use lib.Seq.{take-length}
 use Rattle.std.proofs.lemmas.List.{length-drop, length-take, drop-drop, drop-take, take-take, drop_all, take-append-drop, take_rest}
 use Rattle.places.specs.Places.{beyond, first_place}
@@ -9,12 +9,11 @@ use Rattle.pieces.specs.declared.fault.FaultKind.{FaultKind}
 use Rattle.rules.specs.declared.LexerState.{LexerState}
 use Rattle.rules.specs.declared.Pending.{Pending}
 use Rattle.rules.specs.declared.Step.{Step}
-use Rattle.rules.specs.declared.Verdict.TheVariants.{Piece, End, Fault}
 use Rattle.rules.specs.At.{core_at, place_at, part_at, cut_part}
 use Rattle.rules.specs.Bytes.{push, pushes, behind_at}
 use Rattle.rules.specs.Reading.{Done, Failing, Gives, Stops, finish, act}
 use Rattle.rules.specs.Shapes.{held, least}
-use Rattle.rules.specs.State.{Core}
+use Rattle.rules.specs.State.{Core, fault}
 use Rattle.rules.proofs.Fuel.{FineAt}
 
 pub pushes_append : (xs ys zs : List ℕ) → pushes (xs ++ ys) zs ≡ pushes ys (pushes xs zs)
@@ -44,7 +43,7 @@ module _ (t : List ℕ) (n i : ℕ) (m : LexerState) (w : Pending) (e : Bool) wh
   behind_on k h = ap (λ l. pushes l (behind_at t i)) (part_of t n i k h) ∙ sym (pushes_append (take i t) (take k (drop i t)) []) ∙ ap (λ l. pushes l []) (sym (take-add i k t))
 
   -- a piece is taken off
-  pub act_piece : (p : Step) → i + p.len ≤ n → act (core_at t n i m w e) (Piece p) ≡ Gives (part_at t i p) (core_at t n (i + p.len) p.state p.pending e)
+  pub act_piece : (p : Step) → i + p.len ≤ n → act (core_at t n i m w e) (Ok (Some p)) ≡ Gives (part_at t i p) (core_at t n (i + p.len) p.state p.pending e)
   act_piece p h =
       ap (λ l. Gives (record { kind = p.kind; bytes = l; from = p.from; to = p.to; value = p.value }) (record { behind = pushes (take p.len (drop i (take n t))) (behind_at t i); ahead = drop p.len (drop i (take n t)); cut = drop n t; state = p.state; pending = p.pending; ended = e })) (part_of t n i p.len h)
       ∙ ap (λ l. Gives (part_at t i p) (record { behind = l; ahead = drop p.len (drop i (take n t)); cut = drop n t; state = p.state; pending = p.pending; ended = e })) (behind_on p.len h)
@@ -60,7 +59,7 @@ module _ (t : List ℕ) (n i : ℕ) (m : LexerState) (w : Pending) (e : Bool) wh
   finish_some (x ∷ xs) h c = refl
 
   -- with nothing left it is finished
-  pub act_end : n ≡ length t → act (core_at t n i m w e) End ≡ Stops Done
+  pub act_end : n ≡ length t → act (core_at t n i m w e) (Ok None) ≡ Stops Done
   act_end h = let l = length-drop n t in finish_none (drop n t) (omega arith) (core_at t n i m w e)
 
   all_behind : i ≡ n → pushes (drop n t) (behind_at t i) ≡ behind_at t (length t)
@@ -77,11 +76,11 @@ module _ (t : List ℕ) (n i : ℕ) (m : LexerState) (w : Pending) (e : Bool) wh
       ∙ ap (λ l. record { behind = behind_at t (length t); ahead = drop (length t) (take (length t) t); cut = l; state = m; pending = w; ended = true }) (sym c)
 
   -- the cut is taken off
-  pub act_cut : i ≡ n → n < length t → act (core_at t n i m w e) End ≡ Gives (cut_part t n) (core_at t (length t) (length t) m w true)
+  pub act_cut : i ≡ n → n < length t → act (core_at t n i m w e) (Ok None) ≡ Gives (cut_part t n) (core_at t (length t) (length t) m w true)
   act_cut h k = let l = length-drop n t in finish_some (drop n t) (omega arith) (core_at t n i m w e) ∙ ap (Gives (cut_part t n)) (cut_core h)
 
   -- a fault is seen
-  pub act_fault : (k : FaultKind) (d : ℕ) → i + d ≤ n → act (core_at t n i m w e) (Fault k d) ≡ Stops (Failing k (take d (drop i t)))
+  pub act_fault : (k : FaultKind) (d : ℕ) → i + d ≤ n → act (core_at t n i m w e) (fault k d) ≡ Stops (Failing k (take d (drop i t)))
   act_fault k d h = ap (λ l. Stops (Failing k l)) (part_of t n i d h)
 
   -- what waits is ahead

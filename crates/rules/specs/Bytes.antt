@@ -1,8 +1,8 @@
 -- Bytes: signs, names, runs, and the line that was read so far.
 use Rattle.std.specs.Prelude.{◌≡◌, ℕ, suc, ◌<◌, ◌≤◌, Bool, true, false, not, ◌&&◌, ◌||◌, List, [], ◌∷◌, length, take, ◌==◌, nat_le, slice_index}
 use Rattle.finder.specs.Finding.{is_line_end}
-use Rattle.rules.specs.declared.Whitespace.{Whitespace}
-use Rattle.rules.specs.declared.Whitespace.TheVariants.{Default, Preserve, Remove}
+use Rattle.rules.specs.declared.whitespace.Whitespace.{Whitespace}
+use Rattle.rules.specs.declared.whitespace.Whitespace.TheVariants.{Default, Preserve, Remove}
 
 -- from low to high
 abbrev pub within : ℕ → ℕ → ℕ → Bool

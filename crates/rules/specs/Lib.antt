@@ -9,3 +9,4 @@ pub mod Reading
 pub mod Told
 pub mod Shapes
 pub mod At
+pub mod Cursors

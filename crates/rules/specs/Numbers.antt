@@ -7,10 +7,8 @@ use Rattle.rules.specs.declared.LexerState.{LexerState}
 use Rattle.rules.specs.declared.Pending.TheVariants.{Nothing}
 use Rattle.rules.specs.declared.NumberState.{NumberState}
 use Rattle.rules.specs.declared.NumberState.TheVariants.{RadixInteger, Integer, Fraction, Exponent, ExponentSign, ExponentDigits}
-use Rattle.rules.specs.declared.Verdict.{Verdict}
-use Rattle.rules.specs.declared.Verdict.TheVariants.{Fault}
 use Rattle.rules.specs.Bytes.{within, is_digit, is_sign, leads_name, last_is}
-use Rattle.rules.specs.State.{told, plain}
+use Rattle.rules.specs.State.{told, plain, Verdict, fault}
 
 -- the byte is one of two: a letter in either case
 abbrev pub either : ℕ → ℕ → ℕ → Bool
@@ -92,11 +90,11 @@ value_of base (x ∷ xs) = value_from base 0 (x ∷ xs)
 
 -- an integer of n bytes: below 2^64 it is `int`, below 2^128 `big`, else it is bad
 abbrev pub integer : ℕ → LexerState → Option ℕ → Verdict
-integer n m None = Fault BadInteger n
+integer n m None = fault BadInteger n
 integer n m (Some v) =
     elim (nat_lt v (2 ^ 64)) [
       | true ↦ told Int n 0 n (Some v) m Nothing
-      | false ↦ elim (nat_lt v (2 ^ 128)) [ true ↦ plain Big n m Nothing | false ↦ Fault BadInteger n ]
+      | false ↦ elim (nat_lt v (2 ^ 128)) [ true ↦ plain Big n m Nothing | false ↦ fault BadInteger n ]
     ]
 
 -- a number of n bytes, with these digits, that stops in this part
@@ -104,15 +102,15 @@ abbrev pub number_by : NumberState → ℕ → ℕ → LexerState → List ℕ �
 number_by RadixInteger base n m xs = integer n m (value_of base xs)
 number_by Integer base n m xs = integer n m (value_of base xs)
 number_by Fraction base n m xs = plain Float n m Nothing
-number_by Exponent base n m xs = Fault NoExponent n
-number_by ExponentSign base n m xs = Fault NoExponent n
+number_by Exponent base n m xs = fault NoExponent n
+number_by ExponentSign base n m xs = fault NoExponent n
 number_by ExponentDigits base n m xs = plain Float n m Nothing
 
 -- what was scanned behind a prefix of so many bytes: it may not end in `_`
 abbrev pub scanned : ℕ → ℕ → LexerState → List ℕ → Scanned → Verdict
 scanned base skip m xs s =
     elim (last_is 95 (take s.0 xs)) [
-      | true ↦ Fault TrailingUnderscore (skip + s.0)
+      | true ↦ fault TrailingUnderscore (skip + s.0)
       | false ↦ number_by s.1 base (skip + s.0) m (take s.0 xs)
     ]
 

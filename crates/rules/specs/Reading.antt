@@ -1,5 +1,5 @@
 -- One call of next, and whole readings.
-use Rattle.std.specs.Prelude.{ℕ, zero, suc, ◌+◌, ◌*◌, true, false, List, [], ◌∷◌, length, take, drop, ℤ, pos, None, Option, ◌==◌}
+use Rattle.std.specs.Prelude.{ℕ, zero, suc, ◌+◌, ◌*◌, true, false, List, [], ◌∷◌, length, take, drop, ℤ, pos, None, Option, ◌==◌, Some, Ok, Err}
 use Rattle.finder.specs.Finding.{Opening}
 use Rattle.pieces.specs.declared.kind.Kind.{Kind}
 use Rattle.pieces.specs.declared.kind.Kind.TheVariants.{Cut}
@@ -10,11 +10,9 @@ use Rattle.rules.specs.declared.LexerState.{LexerState}
 use Rattle.rules.specs.declared.LexerState.TheVariants.{Template, Inside, Over}
 use Rattle.rules.specs.declared.Pending.{Pending}
 use Rattle.rules.specs.declared.Pending.TheVariants.{Nothing, Trim, Tail, Marker, RawBody, RawClose}
-use Rattle.rules.specs.declared.Verdict.{Verdict}
-use Rattle.rules.specs.declared.Verdict.TheVariants.{Piece, End, Fault}
 use Rattle.rules.specs.Config.{Config}
 use Rattle.rules.specs.Bytes.{pushes}
-use Rattle.rules.specs.State.{Core}
+use Rattle.rules.specs.State.{Core, Verdict}
 use Rattle.rules.specs.Texts.{verdict}
 
 -- a piece by its own bytes: its text goes from one place in them to another
@@ -45,11 +43,11 @@ finish c (x ∷ xs) =
 
 -- a piece takes its bytes off those ahead
 abbrev pub act : Core → Verdict → Call
-act c (Piece p) =
+act c (Ok (Some p)) =
     Gives (record { kind = p.kind; bytes = take p.len c.ahead; from = p.from; to = p.to; value = p.value })
     (record { behind = pushes (take p.len c.ahead) c.behind; ahead = drop p.len c.ahead; cut = c.cut; state = p.state; pending = p.pending; ended = c.ended })
-act c End = finish c c.cut
-act c (Fault k d) = Stops (Failing k (take d c.ahead))
+act c (Ok None) = finish c c.cut
+act c (Err f) = Stops (Failing f.kind (take f.distance c.ahead))
 
 -- next
 abbrev pub call : List Opening → Config → Core → Call

@@ -1,13 +1,12 @@
 -- What every verdict has: its bytes are ahead, its text lies among them, and the reading goes forward.
-use Rattle.std.specs.Prelude.{◌≡◌, ℕ, suc, ◌+◌, ◌*◌, ◌<◌, ◌≤◌, ℤ, pos, negsuc}
+use Rattle.std.specs.Prelude.{◌≡◌, ℕ, suc, ◌+◌, ◌*◌, ◌<◌, ◌≤◌, ℤ, pos, negsuc, Some, None, Ok, Err}
 use Rattle.rules.specs.declared.LexerState.{LexerState}
 use Rattle.rules.specs.declared.LexerState.TheVariants.{Template, Inside, Over}
 use Rattle.rules.specs.declared.Pending.{Pending}
 use Rattle.rules.specs.declared.Pending.TheVariants.{Nothing, Trim, Tail, Marker, RawBody, RawClose}
 use Rattle.rules.specs.declared.Step.{Step}
-use Rattle.rules.specs.declared.Verdict.{Verdict}
-use Rattle.rules.specs.declared.Verdict.TheVariants.{Piece, End, Fault}
 use Rattle.rules.specs.Reading.{rank}
+use Rattle.rules.specs.State.{Verdict}
 
 -- how many of the bytes ahead belong to what waits
 abbrev pub held : Pending → ℕ
@@ -49,6 +48,6 @@ pub record Forward (n : ℕ) (m : LexerState) (w : Pending) (p : Step) : Type 0 
 
 -- a verdict on n bytes ahead
 abbrev pub Fits : ℕ → LexerState → Pending → Verdict → Type 0
-Fits n m w (Piece p) = Forward n m w p
-Fits n m w End = n ≡ 0
-Fits n m w (Fault k d) = d ≤ n
+Fits n m w (Ok (Some p)) = Forward n m w p
+Fits n m w (Ok None) = n ≡ 0
+Fits n m w (Err f) = f.distance ≤ n

@@ -7,9 +7,7 @@ use Rattle.pieces.specs.declared.kind.Kind.TheVariants.{Str, String}
 use Rattle.pieces.specs.declared.fault.FaultKind.TheVariants.{UnendedString, Escape}
 use Rattle.rules.specs.declared.LexerState.{LexerState}
 use Rattle.rules.specs.declared.Pending.TheVariants.{Nothing}
-use Rattle.rules.specs.declared.Verdict.{Verdict}
-use Rattle.rules.specs.declared.Verdict.TheVariants.{Fault}
-use Rattle.rules.specs.State.{told}
+use Rattle.rules.specs.State.{told, Verdict, fault}
 
 -- how far the next quote like q is that no backslash escapes; the first byte may be escaped
 unfoldable pub quote_end : ℕ → Bool → List ℕ → Option ℕ
@@ -20,7 +18,7 @@ quote_end q false (x ∷ xs) = elim (x == q) [ true ↦ Some 0 | false ↦ furth
 -- a string whose text of n bytes was decoded or refused
 abbrev pub decoded : ℕ → LexerState → Result ℕ DecodeFault → Verdict
 decoded n m (Ok len) = told String (n + 2) 1 (n + 1) (Some len) m Nothing
-decoded n m (Err f) = Fault (Escape f) (n + 2)
+decoded n m (Err f) = fault (Escape f) (n + 2)
 
 -- a string of this text: with a backslash the decoder decides
 abbrev pub string_of : LexerState → List ℕ → Verdict
@@ -32,4 +30,4 @@ string_of m xs =
 
 -- the string that the quote q opens, with these bytes behind the quote
 unfoldable pub string : ℕ → LexerState → List ℕ → Verdict
-string q m xs = elim (quote_end q false xs) [ None ↦ Fault UnendedString (suc (length xs)) | Some n ↦ string_of m (take n xs) ]
+string q m xs = elim (quote_end q false xs) [ None ↦ fault UnendedString (suc (length xs)) | Some n ↦ string_of m (take n xs) ]

@@ -1,5 +1,5 @@
 -- Reading inside tags.
-use Rattle.std.specs.Prelude.{ℕ, zero, suc, ◌+◌, Bool, true, false, ◌&&◌, ◌||◌, List, [], ◌∷◌, length, drop, ℤ, pos, negsuc, ◌+ℤ◌, Some, None, Option, ◌==◌}
+use Rattle.std.specs.Prelude.{ℕ, zero, suc, ◌+◌, Bool, true, false, ◌&&◌, ◌||◌, List, [], ◌∷◌, length, drop, ℤ, pos, negsuc, ◌+ℤ◌, Some, None, Option, ◌==◌, Ok}
 use Rattle.byte_search.specs.Search.{stands_at}
 use Rattle.spaces.specs.Lines.{blank_run, line_end}
 use Rattle.spaces.specs.Runs.{white_run}
@@ -14,14 +14,12 @@ use Rattle.rules.specs.declared.LexerState.{LexerState}
 use Rattle.rules.specs.declared.LexerState.TheVariants.{Template, Inside, Over}
 use Rattle.rules.specs.declared.Pending.{Pending}
 use Rattle.rules.specs.declared.Pending.TheVariants.{Nothing, Trim, Tail}
-use Rattle.rules.specs.declared.Verdict.{Verdict}
-use Rattle.rules.specs.declared.Verdict.TheVariants.{End, Fault}
-use Rattle.rules.specs.declared.Whitespace.{Whitespace}
-use Rattle.rules.specs.declared.Whitespace.TheVariants.{Default, Preserve, Remove}
+use Rattle.rules.specs.declared.whitespace.Whitespace.{Whitespace}
+use Rattle.rules.specs.declared.whitespace.Whitespace.TheVariants.{Default, Preserve, Remove}
 use Rattle.rules.specs.Config.{Config, inline_white}
 use Rattle.rules.specs.Bytes.{is_digit, leads_name, is_name_part, is_sign, sign_of, run}
 use Rattle.rules.specs.Numbers.{number}
-use Rattle.rules.specs.State.{plain}
+use Rattle.rules.specs.State.{plain, Verdict, fault}
 use Rattle.rules.specs.Strings.{string}
 
 -- Tail, with these bytes behind the end: `-` orders a trim; no sign with trim_blocks passes one CR, then one LF over, which is a line end
@@ -90,7 +88,7 @@ literal behind m x xs =
           elim (is_digit x) [
             | true ↦ number (dot_behind behind) m (x ∷ xs)
             | false ↦
-                elim (leads_name x) [ true ↦ plain Ident (run is_name_part (x ∷ xs)) m Nothing | false ↦ Fault NoToken 0 ]
+                elim (leads_name x) [ true ↦ plain Ident (run is_name_part (x ∷ xs)) m Nothing | false ↦ fault NoToken 0 ]
           ]
     ]
 
@@ -171,9 +169,9 @@ statement_end s LineStatement b xs =
 
 -- the template's end: a line statement is closed there, and any other tag stays open
 abbrev pub tag_end : BlockSentinel → Verdict
-tag_end Variable = End
-tag_end Block = End
-tag_end Expression = End
+tag_end Variable = Ok None
+tag_end Block = Ok None
+tag_end Expression = Ok None
 tag_end LineStatement = plain BlockEnd 0 Template Nothing
 
 -- what comes inside a tag at a balance

@@ -1,5 +1,5 @@
 -- Reading text.
-use Rattle.std.specs.Prelude.{◌≡◌, ℕ, zero, suc, ◌+◌, ◌-◌, Bool, true, false, ◌&&◌, List, [], ◌∷◌, length, take, drop, pos, Some, None, codes, Option, ◌==◌, slice_index}
+use Rattle.std.specs.Prelude.{◌≡◌, ℕ, zero, suc, ◌+◌, ◌-◌, Bool, true, false, ◌&&◌, List, [], ◌∷◌, length, take, drop, pos, Some, None, codes, Option, ◌==◌, slice_index, Ok}
 use Rattle.std.specs.List.{ContainsAt as Has}
 use Rattle.byte_search.specs.Search.{stands_at, distance_to}
 use Rattle.finder.specs.declared.StartMarker.{StartMarker}
@@ -15,13 +15,11 @@ use Rattle.rules.specs.declared.LexerState.{LexerState}
 use Rattle.rules.specs.declared.LexerState.TheVariants.{Template, Inside, Over}
 use Rattle.rules.specs.declared.Pending.{Pending}
 use Rattle.rules.specs.declared.Pending.TheVariants.{Nothing, Trim, Tail, Marker, RawBody, RawClose as Closing}
-use Rattle.rules.specs.declared.Verdict.{Verdict}
-use Rattle.rules.specs.declared.Verdict.TheVariants.{End, Fault}
-use Rattle.rules.specs.declared.Whitespace.{Whitespace}
-use Rattle.rules.specs.declared.Whitespace.TheVariants.{Default, Preserve, Remove}
+use Rattle.rules.specs.declared.whitespace.Whitespace.{Whitespace}
+use Rattle.rules.specs.declared.whitespace.Whitespace.TheVariants.{Default, Preserve, Remove}
 use Rattle.rules.specs.Config.{Config, white, inline_white}
 use Rattle.rules.specs.Bytes.{is_sign, sign_of, sign_at, sign_len, in_line, run, pushes, line_before}
-use Rattle.rules.specs.State.{Core, told, plain}
+use Rattle.rules.specs.State.{Core, told, plain, Verdict, fault}
 use Rattle.rules.specs.Tags.{tail, tag_verdict}
 
 -- strips
@@ -138,7 +136,7 @@ raw_text_by s g behind body r =
 
 -- the body of a raw block whose tag has this sign at its end
 unfoldable pub raw_body : Config → Whitespace → List ℕ → List ℕ → Verdict
-raw_body s g behind xs = elim (find_closer s xs) [ None ↦ Fault UnendedRaw (length xs) | Some r ↦ raw_text_by s g behind (take r.0 xs) r.1 ]
+raw_body s g behind xs = elim (find_closer s xs) [ None ↦ fault UnendedRaw (length xs) | Some r ↦ raw_text_by s g behind (take r.0 xs) r.1 ]
 
 -- openings
 
@@ -149,7 +147,7 @@ closing_sign (suc n) xs = sign_of (slice_index xs n)
 
 -- a comment whose opening has n bytes, with its first end so far behind it
 abbrev pub comment_by : Config → ℕ → List ℕ → Option ℕ → Verdict
-comment_by s n xs None = Fault UnendedComment (length xs)
+comment_by s n xs None = fault UnendedComment (length xs)
 comment_by s n xs (Some d) =
     let m : ℕ = n + (d + length s.comment_end) in
     plain CommentGap m Template (tail s (closing_sign d (drop n xs)) (drop m xs))
@@ -222,7 +220,7 @@ AllReal os = (behind ahead : List ℕ) → real (found os behind ahead) ≡ foun
 
 -- text to the next of the openings
 unfoldable pub text : List Opening → Config → List ℕ → List ℕ → Verdict
-text os s behind [] = End
+text os s behind [] = Ok None
 text os s behind (x ∷ xs) = met s behind (x ∷ xs) (real (found os behind (x ∷ xs)))
 
 -- a trim of n bytes was ordered
@@ -241,8 +239,8 @@ text_verdict os s behind xs (Closing n g) = plain RawClose n Template (tail s g 
 
 -- behind the end of an expression any byte is a fault
 abbrev pub over_verdict : List ℕ → Verdict
-over_verdict [] = End
-over_verdict (x ∷ xs) = Fault AfterExpression 0
+over_verdict [] = Ok None
+over_verdict (x ∷ xs) = fault AfterExpression 0
 
 -- what comes next
 abbrev pub verdict_by : List Opening → Config → List ℕ → List ℕ → LexerState → Pending → Verdict

@@ -1,7 +1,6 @@
 -- The pieces of a reading at their places.
-use Rattle.std.specs.Prelude.{◌+◌, min, List, [], ◌∷◌}
-use Rattle.stream.specs.declared.answer.Ending.{Ending}
-use Rattle.stream.specs.declared.answer.Ending.TheVariants.{Finished, Failed}
+use Rattle.std.specs.Prelude.{◌+◌, min, List, [], ◌∷◌, Ok, Err}
+use Rattle.stream.specs.Told.{Ending}
 use Rattle.places.specs.declared.Place.{Place}
 use Rattle.places.specs.declared.Span.{Span}
 use Rattle.places.specs.Places.{beyond, capped, offset_cap}
@@ -44,9 +43,9 @@ fault_span (Escape f) p q = span p q
 
 -- how a reading ends that stops at a place; a reading that has enough calls does not stop unread
 abbrev pub ended : Place → Stop → Ending ReadFault
-ended p Done = Finished
-ended p (Failing k xs) = Failed (record { kind = k; span = fault_span k p (beyond xs p) })
-ended p Unread = Finished
+ended p Done = Ok tt
+ended p (Failing k xs) = Err (record { kind = k; span = fault_span k p (beyond xs p) })
+ended p Unread = Ok tt
 
 -- pieces that come one behind the other from a place on
 unfoldable pub pieces : Place → List Part → List Piece

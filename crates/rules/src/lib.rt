@@ -2,22 +2,16 @@
 
 #![tactic(auto)]
 
+mod cursor;
+mod whitespace;
+
+pub use cursor::Cursor;
 use finder::StartMarker;
 use pieces::{FaultKind, Kind};
-
-// The sign behind an opening or before an end, and what it asks of the white space there.
-#[derive(Clone, Copy)]
-pub enum Whitespace {
-    // no sign
-    Default,
-    // `+`
-    Preserve,
-    // `-`
-    Remove,
-}
+pub use whitespace::Whitespace;
 
 // What a tag was opened by, and so what ends it. An expression starts inside a variable.
-#[derive(Clone, Copy)]
+#[derive(Clone, Copy, Debug, PartialEq, Eq)]
 pub enum BlockSentinel {
     Variable,
     Block,
@@ -26,7 +20,7 @@ pub enum BlockSentinel {
 }
 
 // Where a reading stands: in text, inside a tag at a balance of brackets, or behind the end of an expression.
-#[derive(Clone, Copy)]
+#[derive(Clone, Copy, Debug, PartialEq, Eq)]
 pub enum LexerState {
     Template,
     Inside(BlockSentinel, i64),
@@ -34,7 +28,7 @@ pub enum LexerState {
 }
 
 // What waits in text.
-#[derive(Clone, Copy)]
+#[derive(Clone, Copy, Debug, PartialEq, Eq)]
 pub enum Pending {
     Nothing,
     // white space is to be passed over
@@ -50,7 +44,7 @@ pub enum Pending {
 }
 
 // A tag that closes a raw block: its bytes, the sign behind its start, and the sign before its end.
-#[derive(Clone, Copy)]
+#[derive(Clone, Copy, Debug, PartialEq, Eq)]
 pub struct EndRaw {
     pub len: usize,
     pub first: Whitespace,
@@ -58,7 +52,7 @@ pub struct EndRaw {
 }
 
 // Which part of a number is read.
-#[derive(Clone, Copy)]
+#[derive(Clone, Copy, Debug, PartialEq, Eq)]
 pub enum NumberState {
     RadixInteger,
     Integer,
@@ -72,7 +66,7 @@ pub enum NumberState {
 }
 
 // A piece that comes next: its kind, its bytes, which of them are its text, its value, and where the reading stands behind it.
-#[derive(Clone, Copy)]
+#[derive(Clone, Copy, Debug, PartialEq, Eq)]
 pub struct Step {
     pub kind: Kind,
     pub len: usize,
@@ -83,10 +77,32 @@ pub struct Step {
     pub pending: Pending,
 }
 
-// What the rules say of the bytes ahead: a piece, that none are left, or what is wrong and how many bytes ahead that is seen.
-#[derive(Clone, Copy)]
-pub enum Verdict {
-    Piece(Step),
-    End,
-    Fault(FaultKind, usize),
+// What is wrong, and how many bytes ahead that is seen.
+#[derive(Clone, Copy, Debug, PartialEq, Eq)]
+pub struct Fault {
+    pub kind: FaultKind,
+    pub distance: usize,
+}
+
+// What the rules say of the bytes ahead: a piece, that none are left, or what is wrong.
+pub type Verdict = Result<Option<Step>, Fault>;
+
+impl Step {
+    ghost use Rattle.std.specs.Prelude.{◌≡◌, Ok, Some};
+    ghost use Rattle.rules.specs.State.{plain};
+
+    // A piece that is all text, with no value.
+    pub fn plain(kind: Kind, len: usize, state: LexerState, pending: Pending) -> Step
+        ensures { Ok (Some result) ≡ plain kind len state pending }
+    {
+        Step {
+            kind,
+            len,
+            from: 0,
+            to: len,
+            value: None,
+            state,
+            pending,
+        }
+    }
 }

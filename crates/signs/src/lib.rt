@@ -1,47 +1,14 @@
-// Signs at openings and ends, and what they order behind an end.
+// What a sign orders behind an end.
 
 #![tactic(auto)]
 
 ghost use Rattle.std.specs.Prelude.{◌≡◌};
-ghost use Rattle.rules.specs.Bytes.{sign_of, sign_at, sign_len};
 ghost use Rattle.rules.specs.Config.{config_of};
 ghost use Rattle.rules.specs.Tags.{tail, tail_of};
 
 use rules::{Pending, Whitespace};
 use spaces::line_end;
 use syntax::Settings;
-
-// What a byte says as a sign.
-pub fn from_byte(b: u8) -> Whitespace
-    ensures { result ≡ sign_of b }
-{
-    match b {
-        b'-' => Whitespace::Remove,
-        b'+' => Whitespace::Preserve,
-        _ => Whitespace::Default,
-    }
-}
-
-// The sign at the front, if there is one.
-pub fn sign_at(rest: &[u8]) -> Whitespace
-    ensures { result ≡ sign_at rest.now }
-{
-    match rest {
-        [b, ..] => from_byte(*b),
-        [] => Whitespace::Default,
-    }
-}
-
-// How many bytes a sign has.
-pub fn sign_len(ws: Whitespace) -> usize
-    ensures { result ≡ sign_len ws }
-{
-    match ws {
-        Whitespace::Default => 0,
-        Whitespace::Preserve => 1,
-        Whitespace::Remove => 1,
-    }
-}
 
 // That so many bytes are to be passed over, if any.
 fn skip(n: usize) -> Pending

@@ -1,13 +1,13 @@
 -- The character that ends at the end, found by stepping back to the byte that leads it.
 use Rattle.std.proofs.Common.{◌≡◌, ℕ, zero, suc, ◌+◌, ◌-◌, ◌<◌, ◌≤◌, true, List, [], ◌++◌, length, get_or, drop, Some, None, Option, sym, ap, ◌∙◌, subst, ⊎_elim, arith}
 use lib.Utf8.{scalar, encode}
-use Rattle.std.proofs.lemmas.List.{append-nil, length-append, length-drop, drop_at, take_all, get_or-append-add}
+use Rattle.std.proofs.lemmas.List.{append-nil, length-append, length-drop, drop_at, take_all, get_or-append-add, get_or-drop}
 use Rattle.std.proofs.lemmas.Bool.{cases_lt}
 use Rattle.utf8.specs.declared.Char.{Char}
 use Rattle.utf8.specs.Utf8.{width, char_at}
 use Rattle.utf8.proofs.Rows.{Follows, Sequence, of0, of1, of2, of3, of4, sequence}
 use Rattle.utf8.proofs.Laws.{char_width, char_encode, char_encoded, width_some}
-use Rattle.spaces.specs.Runs.{Ends, Reaches}
+use Rattle.spaces.specs.Runs.{Ends, Reaches, Leads}
 
 -- the first byte of an encoding goes on with no character, and each later one does
 pub record Spelt (n : ℕ) (l : List ℕ) : Type 0 where
@@ -68,14 +68,15 @@ later n l (suc (suc (suc zero))) s g h = s.fourth h
 later n l (suc (suc (suc (suc k)))) s g h = let f = s.few in absurd (omega arith)
 
 -- the last bytes, fewer than `back`, each go on with a character
-abbrev pub Tailing : List ℕ → ℕ → Type 0
+abbrev Tailing : List ℕ → ℕ → Type 0
 Tailing xs back = (k : ℕ) → 0 < k → k < back → (k ≤ length xs) × Follows (get_or xs (length xs - k) 0)
 
-pub tailing_none : (xs : List ℕ) → Tailing xs 1
-tailing_none xs k g h = absurd (omega arith)
-
-pub tailing_more : (xs : List ℕ) (back : ℕ) → back ≤ length xs → Tailing xs back → Follows (get_or xs (length xs - back) 0) → Tailing xs (back + 1)
-tailing_more xs back h t f k g l = ⊎_elim (λ m. t k g m) (λ m. let e : k ≡ back = omega arith in subst (λ j. (j ≤ length xs) × Follows (get_or xs (length xs - j) 0)) (sym e) (h, f)) (cases_lt k back)
+-- so they are where those from `i` on do, behind the first `n`
+tail_bytes : (xs : List ℕ) (n i : ℕ) → ((k : ℕ) → i ≤ k → k < length (drop n xs) → Follows (get_or (drop n xs) k 0)) → Tailing xs (length xs - n - i + 1)
+tail_bytes xs n i f k g h =
+    let l = length-drop n xs in
+    let z : n + (length xs - k - n) ≡ length xs - k = omega arith in
+    (omega arith, subst Follows (get_or-drop n xs (length xs - k - n) 0 ∙ ap (λ j. get_or xs j 0) z) (f (length xs - k - n) (omega arith) (omega arith)))
 
 -- where the bytes end with the encoding of a scalar value
 module _ (xs front : List ℕ) (d : ℕ) (s : scalar d ≡ true) (e : xs ≡ front ++ encode d) where
@@ -116,14 +117,14 @@ module _ (xs front : List ℕ) (d : ℕ) (s : scalar d ≡ true) (e : xs ≡ fro
       let z : length front ≡ start = omega arith in
       ap (λ l. char_at (drop start l)) e ∙ ap char_at (drop_at front (encode d) start z) ∙ ap char_at (sym (append-nil (encode d))) ∙ char_encoded d [] s ∙ ap (λ w. Some (record { code = d; width = w })) r
 
-pub ends_short : (xs : List ℕ) (back : ℕ) → length xs < back → Tailing xs back → Ends xs None
+ends_short : (xs : List ℕ) (back : ℕ) → length xs < back → Tailing xs back → Ends xs None
 ends_short xs back h t d front s e = let l = ln xs front d s e in too_far xs front d s e back t (omega arith)
 
-pub ends_far : (xs : List ℕ) (back : ℕ) → 4 < back → Tailing xs back → Ends xs None
+ends_far : (xs : List ℕ) (back : ℕ) → 4 < back → Tailing xs back → Ends xs None
 ends_far xs back h t d front s e = let f = (spelt d s).few in too_far xs front d s e back t (omega arith)
 
 -- the character at the byte that leads decides
-pub ends_at : (xs : List ℕ) (start back : ℕ) (r : Option Char) → start + back ≡ length xs → 0 < back → Tailing xs back → (Follows (get_or xs (length xs - back) 0) → ⊥) → Reaches xs start r → Ends xs r
+ends_at : (xs : List ℕ) (start back : ℕ) (r : Option Char) → start + back ≡ length xs → 0 < back → Tailing xs back → (Follows (get_or xs (length xs - back) 0) → ⊥) → Reaches xs start r → Ends xs r
 ends_at xs start back None q g t h c = λ d front s e. c (record { code = d; width = back }) (found xs front d s e start back q g t h) q
 ends_at xs start back (Some c) q g t h k =
     let w = char_width (drop start xs) c k.0 in
@@ -136,3 +137,23 @@ ends_at xs start back (Some c) q g t h k =
       ap (λ j. drop j xs) z ∙ sym (take_all c.width (drop start xs) (omega (arith, k.1))) ∙ b.1,
       (λ d front s e. let f = found xs front d s e start back q g t h in let m = k.0 in cc),
     )
+
+-- what the last four bytes tell
+module _ (xs ys : List ℕ) (n : ℕ) (m : n ≡ length xs - 4) (e : ys ≡ drop n xs) (o : Option ℕ) (f : Leads ys o) where
+  told : (u : Option ℕ) → o ≡ u → Leads (drop n xs) u
+  told u q = subst (λ l. Leads l u) e (subst (Leads ys) q f)
+
+  pub ends_none : o ≡ None → Ends xs None
+  ends_none q =
+      let back : ℕ = length xs - n - 0 + 1 in
+      let t : Tailing xs back = tail_bytes xs n 0 (λ k g h. told None q k h) in
+      ⊎_elim (λ h. ends_short xs back (omega arith) t) (λ h. ends_far xs back (omega arith) t) (cases_lt (length xs) 4)
+
+  pub ends_lead : (lead : ℕ) (r : Option Char) → o ≡ Some lead → Reaches xs (n + lead) r → Ends xs r
+  ends_lead lead r q c =
+      let l = length-drop n xs in
+      let t = told (Some lead) q in
+      let back : ℕ = length xs - n - (lead + 1) + 1 in
+      let z : n + lead ≡ length xs - back = omega (arith, t.0) in
+      ends_at xs (n + lead) back r (omega (arith, t.0)) (omega arith) (tail_bytes xs n (lead + 1) (λ k g h. t.2 k (omega arith) h))
+      (λ g. t.1 (subst Follows (sym (get_or-drop n xs lead 0 ∙ ap (λ j. get_or xs j 0) z)) g)) c

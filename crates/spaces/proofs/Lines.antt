@@ -1,6 +1,7 @@
 -- The laws of blanks and of the ends of lines.
-use Rattle.std.proofs.Common.{◌≡◌, ℕ, zero, suc, ◌+◌, ◌<◌, ◌≤◌, true, false, ◌⊎◌, List, [], ◌∷◌, length, get_or, drop, sym, refl, ap, ◌∙◌, subst, inl, inr, ⊎_elim, arith}
-use Rattle.std.proofs.lemmas.List.{drop_more, drop_all}
+use Rattle.std.proofs.Common.{◌≡◌, ℕ, zero, suc, ◌<◌, true, false, ◌⊎◌, List, [], ◌∷◌, length, get_or, Option, MatchOption, unwrap_or, sym, refl, ap, ◌∙◌, subst, inl, inr, ⊎_elim, arith}
+use Rattle.std.specs.List.{AllWithin, HoldsAt}
+use Rattle.std.proofs.lemmas.Iterator.{index_from_first}
 use Rattle.std.proofs.lemmas.Bool.{cases_Bool, cases_eq, eq-eqb, ne_eqb}
 use Rattle.spaces.specs.Lines.{is_blank, blank_run, LongestBlank, lf, line_end, LineEnd}
 
@@ -27,23 +28,10 @@ blank_longest (x ∷ xs) =
     (λ e. subst (LongestBlank (x ∷ xs)) (sym (run_no x xs e)) (omega arith, (λ k h. absurd (omega arith)), (λ h. e)))
     (cases_Bool (is_blank x))
 
--- a walk along the blanks that has come to `i`
-abbrev pub Passed : List ℕ → ℕ → Type 0
-Passed s i = blank_run s ≡ i + blank_run (drop i s)
-
-module _ (s : List ℕ) (i : ℕ) (w : Passed s i) where
-  pub passed_more : i < length s → is_blank (get_or s i 0) ≡ true → Passed s (i + 1)
-  passed_more h e = let d : blank_run (drop i s) ≡ suc (blank_run (drop (i + 1) s)) = ap blank_run (drop_more s i 0 h) ∙ run_yes (get_or s i 0) (drop (i + 1) s) e in omega arith
-
-  pub passed_stop : i < length s → is_blank (get_or s i 0) ≡ false → i ≡ blank_run s
-  passed_stop h e = let d : blank_run (drop i s) ≡ 0 = ap blank_run (drop_more s i 0 h) ∙ run_no (get_or s i 0) (drop (i + 1) s) e in omega arith
-
-  pub passed_all : length s ≤ i → i ≡ blank_run s
-  unfolding blank_run
-  passed_all h = let d : blank_run (drop i s) ≡ 0 = ap blank_run (drop_all i s h) in omega arith
-
-pub blank_at : (s : List ℕ) (i : ℕ) → i ≡ blank_run s → LongestBlank s i
-blank_at s i e = subst (LongestBlank s) (sym e) (blank_longest s)
+-- what `position` finds is the end of the blanks
+pub blank_end : (s : List ℕ) (r : Option ℕ) → MatchOption r (AllWithin (λ b. is_blank b ≡ true) s 0 (length s)) (λ i. (i < length s) × HoldsAt (λ b. is_blank b ≡ false) s i × AllWithin (λ b. is_blank b ≡ true) s 0 i) → blank_run s ≡ unwrap_or r (length s)
+unfolding blank_run
+blank_end s r = index_from_first blank_run (λ b. is_blank b ≡ false) (λ b. is_blank b ≡ true) refl run_no (λ x xs e. let t = run_yes x xs e in omega arith) s r
 
 -- the end of a line, from the first bytes
 

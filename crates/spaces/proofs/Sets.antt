@@ -1,9 +1,9 @@
 -- The laws of ranges.
-use Rattle.std.proofs.Common.{◌≡◌, ℕ, zero, suc, ◌+◌, ◌<◌, ◌≤◌, Bool, true, false, leb, List, [], ◌∷◌, length, get_or, drop, Decides, sym, refl, ap, ◌∙◌, ⊎_elim, arith}
-use Rattle.std.proofs.lemmas.List.{drop_more, drop_all}
+use Rattle.std.proofs.Common.{◌≡◌, ℕ, zero, suc, ◌<◌, ◌≤◌, Bool, true, false, leb, ◌||◌, List, [], ◌∷◌, length, get_or, Decides, sym, refl, ap, ◌∙◌, ⊎_elim, arith}
 use Rattle.std.proofs.lemmas.Bool.{cases_Bool, both_ways, and_parts, and_from, leb-true, le-leb}
 use Rattle.spaces.specs.declared.CodeRange.{CodeRange}
 use Rattle.std.specs.Char.{is_whitespace}
+use Rattle.std.specs.List.{list_any}
 use Rattle.std.proofs.lemmas.Bool.Decides.{nat_tests}
 use Rattle.spaces.specs.Spaces.{white_space, holds, in_ranges, Held}
 
@@ -31,24 +31,11 @@ held_in (r ∷ rs) c (suc k) h f = ⊎_elim (λ t. in_yes r rs c t) (λ t. in_no
 pub in_decides : (rs : List CodeRange) (c : ℕ) (r : Bool) → r ≡ in_ranges rs c → Decides r (Held rs c)
 in_decides rs c r e = ((λ t. in_held rs c (sym e ∙ t)), (λ h. e ∙ held_in rs c h.0 h.1 h.2))
 
--- a loop over the ranges: what is left decides
-abbrev pub Left : List CodeRange → ℕ → ℕ → Type 0
-Left rs c i = in_ranges rs c ≡ in_ranges (drop i rs) c
-
-module _ (rs : List CodeRange) (c i : ℕ) (l : Left rs c i) where
-  pub left_end : length rs ≤ i → false ≡ in_ranges rs c
-  unfolding in_ranges
-  left_end h = sym (l ∙ ap (λ l. in_ranges l c) (drop_all i rs h))
-
-  module _ (d : CodeRange) (h : i < length rs) where
-    abbrev r : CodeRange
-    r = get_or rs i d
-
-    pub left_here : true ≡ holds r c → true ≡ in_ranges rs c
-    left_here e = sym (l ∙ ap (λ l. in_ranges l c) (drop_more rs i d h) ∙ in_yes r (drop (i + 1) rs) c (sym e))
-
-    pub left_more : false ≡ holds r c → Left rs c (i + 1)
-    left_more e = l ∙ ap (λ l. in_ranges l c) (drop_more rs i d h) ∙ in_no r (drop (i + 1) rs) c (sym e)
+-- whether a range holds it, asked of one range after another
+pub any_holds : (rs : List CodeRange) (c : ℕ) → list_any (λ r. holds r c) rs ≡ in_ranges rs c
+unfolding in_ranges
+any_holds [] c = refl
+any_holds (r ∷ rs) c = elim (holds r c) as (λ b. (b || list_any (λ r. holds r c) rs) ≡ elim b [ true ↦ true | false ↦ in_ranges rs c ]) [ true ↦ refl | false ↦ any_holds rs c ]
 
 -- the table is what the standard library takes for white space
 pub white_agrees : (c : ℕ) → in_ranges white_space c ≡ is_whitespace c

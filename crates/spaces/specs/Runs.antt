@@ -1,5 +1,5 @@
 -- Runs of characters that pass a test, on bytes: a character is a well-formed sequence, and nothing else is.
-use Rattle.std.specs.Prelude.{◌≡◌, ℕ, zero, suc, ◌+◌, ◌-◌, ◌<◌, ◌≤◌, Bool, true, false, List, [], ◌∷◌, ◌++◌, length, take, drop, Some, None, Option, ◌==◌, ◌≢◌}
+use Rattle.std.specs.Prelude.{◌≡◌, ℕ, zero, suc, ◌+◌, ◌-◌, ◌<◌, ◌≤◌, Bool, true, false, List, [], ◌∷◌, ◌++◌, length, take, drop, Some, None, Option, ◌==◌, ◌≢◌, slice_index}
 use Rattle.std.proofs.Math.Utf8.{scalar, scalars, encode, encodes}
 use Rattle.std.specs.List.{AllByRecursion}
 use Rattle.utf8.specs.declared.Char.{Char}
@@ -54,3 +54,12 @@ Ends xs (Some c) =
 abbrev pub Reaches : List ℕ → ℕ → Option Char → Type 0
 Reaches xs start None = (c : Char) → char_at (drop start xs) ≡ Some c → start + c.width ≢ length xs
 Reaches xs start (Some c) = (char_at (drop start xs) ≡ Some c) × (start + c.width ≡ length xs)
+
+-- the byte goes on with a character
+abbrev pub GoesOn : ℕ → Type 0
+GoesOn b = (128 ≤ b) × (b ≤ 191)
+
+-- the last place whose byte goes on with no character; of None, that each byte goes on with one
+abbrev pub Leads : List ℕ → Option ℕ → Type 0
+Leads xs None = (k : ℕ) → k < length xs → GoesOn (slice_index xs k)
+Leads xs (Some i) = (i < length xs) × (GoesOn (slice_index xs i) → ⊥) × ((k : ℕ) → i < k → k < length xs → GoesOn (slice_index xs k))

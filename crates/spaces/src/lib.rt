@@ -6,15 +6,15 @@ ghost use Rattle.std.specs.Prelude.{◌≡◌, ℕ, ◌≤◌, Bool, true, take,
 ghost use Rattle.std.specs.Char.{is_whitespace};
 ghost use Rattle.ranged.specs.Ranges.{first_too_early, Rising};
 ghost use Rattle.spaces.specs.Spaces.{white_space, begins, ends, in_ranges, in_line, Held, holds as range_holds};
-ghost use Rattle.spaces.specs.Runs.{white_run, white_tail, Longest, LongestTail, Ends, Reaches};
+ghost use Rattle.spaces.specs.Runs.{white_run, white_tail, Longest, LongestTail, Ends, Reaches, Leads};
 ghost use Rattle.spaces.specs.Lines.{is_blank, blank_run, line_end, LongestBlank, LineEnd};
 
-use byte_search::until;
+use byte_search::{after, until};
 use ranged::Ranged;
-use utf8::{Char, char_at};
+use utf8::{Char, char_at, is_continuation};
 
 // The code points from `first` to `last`.
-#[derive(Clone, Copy)]
+#[derive(Clone, Copy, Debug, PartialEq, Eq)]
 pub struct CodeRange {
     pub first: u32,
     pub last: u32,
@@ -25,7 +25,7 @@ impl CodeRange {
     pub fn holds(&self, c: char) -> bool
         ensures { result ≡ range_holds self.now c }
     {
-        self.first <= u32::from(c) && u32::from(c) <= self.last
+        (self.first..=self.last).contains(&u32::from(c))
     }
 }
 
@@ -102,12 +102,7 @@ pub fn in_ranges(ranges: &[CodeRange], c: char) -> bool
     ensures value { result ≡ in_ranges ranges.now c }
     ensures held { Decides result (Held ranges.now c) }
 {
-    for range in ranges {
-        if range.holds(c) {
-            return true;
-        }
-    }
-    false
+    ranges.iter().any(|range| range.holds(c))
 }
 
 // A set of characters.
@@ -119,7 +114,7 @@ pub trait CharSet {
 }
 
 // The characters of the ranges, White_Space as a rule.
-#[derive(Clone, Copy)]
+#[derive(Clone, Copy, Debug, PartialEq, Eq)]
 pub struct White<'s> {
     pub ranges: &'s [CodeRange],
 }
@@ -133,7 +128,7 @@ impl<'s> CharSet for White<'s> {
 }
 
 // The characters of the ranges other than CR and LF.
-#[derive(Clone, Copy)]
+#[derive(Clone, Copy, Debug, PartialEq, Eq)]
 pub struct InlineWhite<'s> {
     pub ranges: &'s [CodeRange],
 }
@@ -154,33 +149,28 @@ pub fn run_forward<C: CharSet>(set: &C, s: &[u8]) -> usize
     ensures value { result ≡ white_run (C.CharSet.has set.now) s.now }
     ensures longest { Longest (C.CharSet.has set.now) s.now result }
 {
+    // By hand: the place moves by the width of a character, which no iterator over bytes does.
     let mut end = 0;
-    while let Some(c) = char_at(s, end) {
-        if !set.contains(c.code) {
-            return end;
-        }
+    while let Some(c) = char_at(s, end)
+        && set.contains(c.code)
+    {
         end += c.width;
     }
     end
-}
-
-// Whether `b` is a later byte of a character.
-fn goes_on(b: u8) -> bool
-    ensures { Decides result ((128 ≤ b) × (b ≤ 191)) }
-{
-    matches!(b, 0x80..=0xBF)
 }
 
 // The character at `start`, if it reaches to the end.
 fn reaching(s: &[u8], start: usize) -> Option<Char>
     ensures { Reaches s.now start result }
 {
-    let c = char_at(s, start)?;
-    if c.width == s.len() - start {
-        Some(c)
-    } else {
-        None
-    }
+    char_at(s, start).filter(|c| c.width == after(s, start).len())
+}
+
+// The last byte that goes on with no character.
+fn last_lead(s: &[u8]) -> Option<usize>
+    ensures { Leads s.now result }
+{
+    s.iter().rposition(|b| !is_continuation(*b))
 }
 
 // The character that ends at `at`, or at the end where that is past it.
@@ -188,16 +178,9 @@ pub fn char_before(s: &[u8], at: usize) -> Option<Char>
     ensures { Ends (take at s.now) result }
 {
     let front = until(s, at);
-    for back in 1..5 {
-        if front.len() < back {
-            return None;
-        }
-        let start = front.len() - back;
-        if !goes_on(front[start]) {
-            return reaching(front, start);
-        }
-    }
-    None
+    let skipped = front.len().saturating_sub(4);
+    let lead = last_lead(after(front, skipped))?;
+    reaching(front, skipped + lead)
 }
 
 // How many bytes the characters of the set have that end at `at`, or at the end where that is past it.
@@ -206,11 +189,11 @@ pub fn run_backward<C: CharSet>(set: &C, s: &[u8], at: usize) -> usize
     ensures longest { LongestTail (C.CharSet.has set.now) (take at s.now) result }
 {
     let front = until(s, at);
+    // By hand, as forward.
     let mut start = front.len();
-    while let Some(c) = char_before(front, start) {
-        if !set.contains(c.code) {
-            return front.len() - start;
-        }
+    while let Some(c) = char_before(front, start)
+        && set.contains(c.code)
+    {
         start -= c.width;
     }
     front.len() - start
@@ -228,12 +211,9 @@ pub fn blank_run(s: &[u8]) -> usize
     ensures value { result ≡ blank_run s.now }
     ensures longest { LongestBlank s.now result }
 {
-    for (i, b) in s.iter().enumerate() {
-        if !is_ascii_blank(*b) {
-            return i;
-        }
-    }
-    s.len()
+    s.iter()
+        .position(|b| !is_ascii_blank(*b))
+        .unwrap_or(s.len())
 }
 
 // How many bytes CR LF, LF or CR at the front has, 0 where none of them stands there.

@@ -2,10 +2,8 @@
 
 #![tactic(auto)]
 
-pub mod answer;
 pub mod look_ahead;
 pub mod stream;
 
-pub use answer::{Answer, Ending};
 pub use look_ahead::LookAhead;
-pub use stream::Stream;
+pub use stream::{Ending, Stream};

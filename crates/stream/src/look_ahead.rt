@@ -4,7 +4,6 @@ ghost use Rattle.std.specs.Option.{option_to_list};
 ghost use Rattle.finder.specs.Finding.{Opening};
 ghost use Rattle.stream.specs.Told.{Look};
 
-use super::answer::Answer;
 use super::stream::Stream;
 use finder::Finder;
 
@@ -27,30 +26,24 @@ impl<S: Stream> LookAhead<S> {
     }
 
     // Tells what next will tell, and leaves the meaning.
-    pub fn look<F: Finder>(&mut self, finder: &F) -> Answer<S::Item, S::Ending>
+    pub fn look<F: Finder>(&mut self, finder: &F) -> Result<Option<S::Item>, S::Fault>
         ensures tells { S.Stream.serves self.old.below (F.Finder.openings finder.now) → Look (option_to_list self.old.held ++ S.Stream.items self.old.below) (S.Stream.ending self.old.below) result }
         ensures items { S.Stream.serves self.old.below (F.Finder.openings finder.now) → option_to_list self.new.held ++ S.Stream.items self.new.below ≡ option_to_list self.old.held ++ S.Stream.items self.old.below }
         ensures ending { S.Stream.serves self.old.below (F.Finder.openings finder.now) → S.Stream.ending self.new.below ≡ S.Stream.ending self.old.below }
         ensures serves { (os : List Opening) → S.Stream.serves self.old.below os → S.Stream.serves self.new.below os }
         ensures left { length (option_to_list self.new.held) + S.Stream.left self.new.below ≤ length (option_to_list self.old.held) + S.Stream.left self.old.below }
     {
-        match self.held {
-            Some(x) => Answer::Item(x),
-            None => match self.below.next(finder) {
-                Answer::Item(x) => {
-                    self.held = Some(x);
-                    Answer::Item(x)
-                }
-                Answer::End(e) => Answer::End(e),
-            },
+        if self.held.is_none() {
+            self.held = self.below.next(finder)?;
         }
+        Ok(self.held)
     }
 }
 
 impl<S: Stream> Stream for LookAhead<S> {
     type Item = S::Item;
 
-    type Ending = S::Ending;
+    type Fault = S::Fault;
 
     ghost items = { λ a. option_to_list a.held ++ S.Stream.items a.below };
 
@@ -60,12 +53,9 @@ impl<S: Stream> Stream for LookAhead<S> {
 
     ghost left = { λ a. length (option_to_list a.held) + S.Stream.left a.below };
 
-    fn next<F: Finder>(&mut self, finder: &F) -> Answer<S::Item, S::Ending> {
-        match self.held {
-            Some(x) => {
-                self.held = None;
-                Answer::Item(x)
-            }
+    fn next<F: Finder>(&mut self, finder: &F) -> Result<Option<S::Item>, S::Fault> {
+        match self.held.take() {
+            Some(x) => Ok(Some(x)),
             None => self.below.next(finder),
         }
     }

@@ -1,23 +1,11 @@
 -- The bytes behind a place, and the line that they begin.
-use Rattle.std.proofs.Common.{◌≡◌, ℕ, zero, suc, ◌+◌, ◌-◌, ◌<◌, ◌≤◌, true, false, eqb, List, [], ◌∷◌, ◌++◌, length, get_or, take, drop, sym, refl, ap, ◌∙◌, subst, inl, inr, ⊎_elim, add-one, arith, take-add}
+use Rattle.std.proofs.Common.{◌≡◌, ℕ, zero, suc, ◌+◌, ◌<◌, ◌≤◌, true, false, List, [], ◌∷◌, ◌++◌, length, get_or, take, drop, sym, refl, ap, ◌∙◌, inl, inr, ⊎_elim, add-one, arith, take-add}
 use Rattle.std.proofs.lemmas.List.{append_assoc, length-take-le, take_more, drop-append-le, drop_all}
-use Rattle.std.proofs.lemmas.Bool.{cases_Bool, cases_lt, or_parts}
+use Rattle.std.proofs.lemmas.Bool.{cases_Bool}
 use Rattle.finder.specs.Finding.{is_line_end}
 use Rattle.rules.specs.Bytes.{push, pushes, behind_at, line_before}
+use Rattle.rules.proofs.Whole.{pushes_append}
 use Rattle.strips.specs.Lines.{LineBegins}
-
-pub pushes_none : (b : List ℕ) → pushes [] b ≡ b
-unfolding pushes
-pushes_none b = refl
-
-pub pushes_append : (xs ys b : List ℕ) → pushes (xs ++ ys) b ≡ pushes ys (pushes xs b)
-unfolding pushes
-pushes_append [] ys b = refl
-pushes_append (x ∷ xs) ys b = pushes_append xs ys (push x b)
-
-pub pushes_one : (x : ℕ) (b : List ℕ) → pushes (x ∷ []) b ≡ push x b
-unfolding pushes
-pushes_one x b = refl
 
 -- what is behind a place that is d bytes further
 pub behind_further : (xs : List ℕ) (i d : ℕ) → pushes (take d (drop i xs)) (behind_at xs i) ≡ behind_at xs (i + d)
@@ -25,31 +13,18 @@ behind_further xs i d = sym (pushes_append (take i xs) (take d (drop i xs)) []) 
 
 -- one byte more is behind
 pub behind_more : (xs : List ℕ) (k : ℕ) → k < length xs → behind_at xs (suc k) ≡ push (get_or xs k 0) (behind_at xs k)
-behind_more xs k h =
-    ap (λ n. behind_at xs n) (sym (add-one k))
-    ∙ ap (λ ys. pushes ys []) (take_more xs k 0 h)
-    ∙ pushes_append (take k xs) (get_or xs k 0 ∷ []) []
-    ∙ pushes_one (get_or xs k 0) (behind_at xs k)
+unfolding pushes
+behind_more xs k h = ap (λ n. behind_at xs n) (sym (add-one k)) ∙ ap (λ ys. pushes ys []) (take_more xs k 0 h) ∙ pushes_append (take k xs) (get_or xs k 0 ∷ []) []
 
 -- the line so far
 
-line_none : (acc : List ℕ) → line_before [] acc ≡ acc
-unfolding line_before
-line_none acc = refl
-
 line_end_before : (b : ℕ) (bs acc : List ℕ) → is_line_end b ≡ true → line_before (push b bs) acc ≡ acc
 unfolding line_before
-line_end_before b bs acc e =
-    ⊎_elim
-    (λ f. ap (λ t. line_before (elim t [ true ↦ [] | false ↦ b ∷ bs ]) acc) f)
-    (λ f. ap (λ t. line_before (elim t [ true ↦ [] | false ↦ b ∷ bs ]) acc) f ∙ ap (λ t. elim t [ true ↦ acc | false ↦ line_before bs (b ∷ acc) ]) e)
-    (cases_Bool (eqb b 10))
+line_end_before b bs acc e = grind arith
 
 line_on : (b : ℕ) (bs acc : List ℕ) → is_line_end b ≡ false → line_before (push b bs) acc ≡ line_before bs (b ∷ acc)
 unfolding line_before
-line_on b bs acc e =
-    ap (λ t. line_before (elim t [ true ↦ [] | false ↦ b ∷ bs ]) acc) (or_parts (eqb b 13) (eqb b 10) e).1
-    ∙ ap (λ t. elim t [ true ↦ acc | false ↦ line_before bs (b ∷ acc) ]) e
+line_on b bs acc e = grind arith
 
 -- the line before the place k begins at i: no CR or LF lies between, and its bytes are what is behind since
 pub record Since (xs : List ℕ) (k i : ℕ) : Type 0 where
@@ -59,23 +34,16 @@ pub record Since (xs : List ℕ) (k i : ℕ) : Type 0 where
   pub bytes : (acc : List ℕ) → line_before (behind_at xs k) acc ≡ drop i (take k xs) ++ acc
 
 since_start : (xs : List ℕ) → Since xs 0 0
-since_start xs = record {
-  before = omega arith;
-  begins = inl refl;
-  plain = λ j l h. absurd (omega arith);
-  bytes = λ acc. ap (λ b. line_before b acc) (pushes_none []) ∙ line_none acc;
-}
+unfolding pushes line_before
+since_start xs = record { before = omega arith; begins = inl refl; plain = λ j l h. absurd (omega arith); bytes = λ acc. refl }
 
 since_end : (xs : List ℕ) (k : ℕ) → k < length xs → is_line_end (get_or xs k 0) ≡ true → Since xs (suc k) (suc k)
-since_end xs k h e =
-    let z : k ≡ suc k - 1 = omega arith in
-    let l = length-take-le (suc k) xs h in
-    record {
-      before = omega arith;
-      begins = inr (subst (λ n. is_line_end (get_or xs n 0) ≡ true) z e);
-      plain = λ j a b. absurd (omega arith);
-      bytes = λ acc. ap (λ b. line_before b acc) (behind_more xs k h) ∙ line_end_before (get_or xs k 0) (behind_at xs k) acc e ∙ ap (λ ys. ys ++ acc) (sym (drop_all (suc k) (take (suc k) xs) (omega arith)));
-    }
+since_end xs k h e = record {
+  before = omega arith;
+  begins = inr (grind arith);
+  plain = λ j a b. absurd (omega arith);
+  bytes = λ acc. grind (arith, behind_more, line_end_before, drop_all, length-take-le);
+}
 
 since_on : (xs : List ℕ) (k i : ℕ) → k < length xs → is_line_end (get_or xs k 0) ≡ false → Since xs k i → Since xs (suc k) i
 since_on xs k i h e s =
@@ -86,7 +54,7 @@ since_on xs k i h e s =
     record {
       before = omega (arith, s.before);
       begins = s.begins;
-      plain = λ j a c. ⊎_elim (λ q. s.plain j a q) (λ q. let z : k ≡ j = omega arith in subst (λ n. is_line_end (get_or xs n 0) ≡ false) z e) (cases_lt j k);
+      plain = λ j a c. grind (arith, s.plain);
       bytes = λ acc.
           ap (λ y. line_before y acc) (behind_more xs k h) ∙ line_on b (behind_at xs k) acc e ∙ s.bytes (b ∷ acc)
           ∙ sym (append_assoc (drop i (take k xs)) (b ∷ []) acc) ∙ ap (λ ys. ys ++ acc) (sym d);

@@ -1,8 +1,13 @@
 -- Lines that hold white space only, and what a strip leaves.
 use Rattle.std.specs.Prelude.{◌≡◌, ℕ, ◌-◌, ◌≤◌, Bool, true, ◌⊎◌, List, length, take, drop, slice_index}
 use Rattle.finder.specs.Finding.{is_line_end}
-use Rattle.spaces.specs.Runs.{AllPass}
+use Rattle.finder.specs.declared.StartMarker.{StartMarker}
+use Rattle.spaces.specs.Runs.{AllPass, kept}
 use Rattle.spaces.specs.Spaces.{white_space, in_line}
+use Rattle.rules.specs.declared.whitespace.Whitespace.{Whitespace}
+use Rattle.rules.specs.declared.whitespace.Whitespace.TheVariants.{Default, Preserve, Remove}
+use Rattle.rules.specs.Config.{Config, white}
+use Rattle.rules.specs.Texts.{due, stripped}
 
 -- a line begins at the place j of xs: it is the start, or CR or LF is right before it
 abbrev pub LineBegins : List ℕ → ℕ → Type 0
@@ -25,3 +30,10 @@ abbrev pub Left : List ℕ → ℕ → Type 0
 Left xs r =
     (Strips xs r × ((m : ℕ) → AllPass (in_line white_space) (drop m xs) → r ≤ m))
     ⊎ ((r ≡ length xs) × ((m : ℕ) → Strips xs m → ⊥))
+
+-- how many bytes of the text xs are left before an opening with this sign, with these bytes behind the opening:
+-- `-` takes trailing White_Space off, and with no sign a strip may be due
+abbrev pub left_before : Config → StartMarker → Whitespace → List ℕ → List ℕ → ℕ
+left_before s m Remove behind xs = kept (white s) xs
+left_before s m Preserve behind xs = length xs
+left_before s m Default behind xs = stripped (due s m behind) s xs

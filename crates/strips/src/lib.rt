@@ -9,11 +9,12 @@ ghost use Rattle.spaces.specs.Spaces.{white_space, in_ranges, in_line};
 ghost use Rattle.rules.specs.Bytes.{behind_at, line_before};
 ghost use Rattle.rules.specs.Config.{config_of};
 ghost use Rattle.rules.specs.Texts.{due, left_over, lead as lead_of};
-ghost use Rattle.strips.specs.Lines.{WhiteLine, Trims, Left};
+ghost use Rattle.rules.specs.Cursors.{config_at, behind, ahead};
+ghost use Rattle.strips.specs.Lines.{WhiteLine, Trims, Left, left_before};
 
-use byte_search::{after, until};
+use byte_search::until;
 use finder::StartMarker;
-use rules::Whitespace;
+use rules::{Cursor, Whitespace};
 use spaces::{CharSet, InlineWhite, White, run_backward, run_forward, white_space};
 use syntax::Settings;
 
@@ -44,12 +45,15 @@ fn inline_white() -> InlineWhite<'static>
 
 // How many bytes of a text are left when the characters of the set at its end are taken off.
 fn trim_end_matches<C: CharSet>(text: &[u8], set: &C) -> usize
-    ensures { result ≡ kept (C.CharSet.has set.now) text.now }
+    ensures value { result ≡ kept (C.CharSet.has set.now) text.now }
+    ensures within { result ≤ length text.now }
+    ensures least { Trims (C.CharSet.has set.now) text.now result }
 {
     text.len() - run_backward(set, text, text.len())
 }
 
 // How many bytes of a text are left when the white space at its end is taken off.
+// This and the next name the two sets that the crates above use: what both do is said once, above.
 pub fn trim_end(text: &[u8]) -> usize
     ensures value { result ≡ kept (in_ranges white_space) text.now }
     ensures within { result ≤ length text.now }
@@ -82,8 +86,10 @@ pub fn line_is_white(source: &[u8], at: usize) -> bool
     ensures line { Decides result (WhiteLine source.now at) }
 {
     let front = until(source, at);
-    let start = trim_end_inline(front);
-    start == 0 || is_nl(front[start - 1])
+    match until(front, trim_end_inline(front)) {
+        [] => true,
+        [.., b] => is_nl(*b),
+    }
 }
 
 // Whether a strip is due before an opening with no sign that stands at a place.
@@ -104,44 +110,47 @@ pub fn should_lstrip_block(
 }
 
 // How many bytes of a text a strip leaves: it takes white space other than CR and LF off, if nothing or an LF is then at the end.
+#[tactic(auto, using(crate::proofs::Strips::left_all))]
 pub fn lstrip_block(text: &[u8]) -> usize
     ensures value { result ≡ left_over (kept (in_line white_space) text.now) text.now }
     ensures within { result ≤ length text.now }
     ensures left { Left text.now result }
 {
     let trimmed = trim_end_inline(text);
-    if trimmed == 0 {
-        return 0;
+    match until(text, trimmed) {
+        [] | [.., b'\n'] => trimmed,
+        _ => text.len(),
     }
-    if text[trimmed - 1] == b'\n' {
-        return trimmed;
-    }
-    text.len()
 }
 
-// How many of the bytes from the offset on are left as text before an opening with this sign that is so far ahead.
-pub fn lead(
-    settings: &Settings,
+// How many bytes of a text are left before an opening with this sign that is so far ahead.
+pub fn left_before(
+    here: &Cursor,
+    distance: usize,
     marker: StartMarker,
     ws: Whitespace,
-    source: &[u8],
-    offset: usize,
-    distance: usize,
+    text: &[u8],
 ) -> usize
-    requires { offset + distance ≤ length source.now }
-    ensures value { result ≡ lead_of (config_of settings.now) marker ws (behind_at source.now offset) (take distance (drop offset source.now)) }
-    ensures within { result ≤ distance }
+    requires { distance ≤ length (ahead here.now) }
+    ensures value { result ≡ left_before (config_at here.now) marker ws (behind_at here.now.source.now (here.now.offset + distance)) text.now }
+    ensures within { result ≤ length text.now }
 {
-    let text = until(after(source, offset), distance);
+    let at = here.offset + distance;
     match ws {
         Whitespace::Remove => trim_end(text),
-        Whitespace::Preserve => text.len(),
-        Whitespace::Default => {
-            if should_lstrip_block(settings, marker, source, offset + distance) {
-                lstrip_block(text)
-            } else {
-                text.len()
-            }
+        Whitespace::Default if should_lstrip_block(here.settings, marker, here.source, at) => {
+            lstrip_block(text)
         }
+        _ => text.len(),
     }
+}
+
+// How many of the bytes ahead are left as text before an opening with this sign that is so far ahead.
+#[tactic(auto, using(crate::proofs::Strips::lead_left))]
+pub fn lead(here: &Cursor, distance: usize, marker: StartMarker, ws: Whitespace) -> usize
+    requires { distance ≤ length (ahead here.now) }
+    ensures value { result ≡ lead_of (config_at here.now) marker ws (behind here.now) (take distance (ahead here.now)) }
+    ensures within { result ≤ distance }
+{
+    left_before(here, distance, marker, ws, until(here.ahead(), distance))
 }

@@ -4,7 +4,7 @@ use mathlib.Core.Path.{fun_ext}
 use Rattle.finder.specs.declared.StartMarker.TheVariants.{Variable, Block, Comment}
 use Rattle.syntax.specs.declared.name.DelimiterName.{DelimiterName}
 use Rattle.syntax.specs.Names.{markers}
-use Rattle.syntax.specs.Building.{Table, first_empty, any_same, first_equal, build_told}
+use Rattle.syntax.specs.Building.{Table, first_equal, build_told}
 use Rattle.syntax.specs.Drafts.{defaults}
 use Rattle.syntax.specs.Openings.{openings_by}
 
@@ -14,7 +14,7 @@ same_tables t u h = fun_ext h
 
 -- the default delimiters are built
 pub defaults_told : (t : Table) → ((n : DelimiterName) → t n ≡ defaults n) → build_told t ≡ Ok tt
-unfolding first_empty any_same first_equal
+unfolding first_equal
 defaults_told t h = ap build_told (same_tables t defaults h)
 
 -- the default openings: {{ and {% and {#

@@ -1,5 +1,5 @@
 -- What the walks of building find, in words.
-use Rattle.std.proofs.Common.{◌≡◌, ℕ, zero, suc, ◌<◌, true, false, List, [], ◌∷◌, ◌++◌, length, take, Some, None, Ok, Err, Option, sym, refl, ap, ◌∙◌, subst, ⊎_elim, append_assoc, append-nil, arith, eqb-true}
+use Rattle.std.proofs.Common.{◌≡◌, ℕ, zero, suc, ◌<◌, true, false, cond, List, [], ◌∷◌, ◌++◌, ◌||◌, length, take, Some, None, Ok, Err, Option, sym, refl, ap, ◌∙◌, subst, ⊎_elim, append_assoc, append-nil, arith, eqb-true}
 use borrow.Author.Tests.{eqb-false}
 use Rattle.std.proofs.lemmas.Bool.{cases_Bool, both_ways}
 use Rattle.std.proofs.lemmas.Slice.Eq.{bytes_eq-Decides}
@@ -18,20 +18,18 @@ empty_false xs e p = eqb-false (length xs) 0 e (ap length p)
 
 -- a name of these bytes is among the names exactly where the test says so
 pub any_true : (t : Table) (xs : List ℕ) (ns : List DelimiterName) → any_same t xs ns ≡ true → (j : ℕ) × (j < length ns) × (t (name_at ns j) ≡ xs)
-unfolding any_same
 any_true t xs [] e = absurd (both_ways false refl e)
 any_true t xs (n ∷ ns) e = ⊎_elim
     (λ p. (0, omega arith, (bytes_eq-Decides (t n) xs).0 p))
-    (λ p. let w = any_true t xs ns (sym (ap (λ b. elim b [ true ↦ true | false ↦ any_same t xs ns ]) p) ∙ e) in (suc w.0, omega arith, w.2))
+    (λ p. let w = any_true t xs ns (sym (ap (λ b. b || any_same t xs ns) p) ∙ e) in (suc w.0, omega arith, w.2))
     (cases_Bool (bytes_eq (t n) xs))
 
 pub any_false : (t : Table) (xs : List ℕ) (ns : List DelimiterName) → any_same t xs ns ≡ false → (j : ℕ) → j < length ns → t (name_at ns j) ≡ xs → ⊥
-unfolding any_same
 any_false t xs [] e j h q = absurd (omega arith)
-any_false t xs (n ∷ ns) e zero h q = both_ways (any_same t xs (n ∷ ns)) e (ap (λ b. elim b [ true ↦ true | false ↦ any_same t xs ns ]) ((bytes_eq-Decides (t n) xs).1 q))
+any_false t xs (n ∷ ns) e zero h q = both_ways (any_same t xs (n ∷ ns)) e (ap (λ b. b || any_same t xs ns) ((bytes_eq-Decides (t n) xs).1 q))
 any_false t xs (n ∷ ns) e (suc j) h q = ⊎_elim
-    (λ p. both_ways (any_same t xs (n ∷ ns)) e (ap (λ b. elim b [ true ↦ true | false ↦ any_same t xs ns ]) p))
-    (λ p. any_false t xs ns (sym (ap (λ b. elim b [ true ↦ true | false ↦ any_same t xs ns ]) p) ∙ e) j (omega arith) q)
+    (λ p. both_ways (any_same t xs (n ∷ ns)) e (ap (λ b. b || any_same t xs ns) p))
+    (λ p. any_false t xs ns (sym (ap (λ b. b || any_same t xs ns) p) ∙ e) j (omega arith) q)
     (cases_Bool (bytes_eq (t n) xs))
 
 module _ (t : Table) (earlier : List DelimiterName) (n : DelimiterName) where
@@ -70,12 +68,11 @@ in_front P n ns p = (0, refl, p, λ j h q. absurd (omega arith))
 
 -- the walk over empty delimiters finds the first
 pub first_empty_is : (t : Table) (ns : List DelimiterName) → FirstIn (EmptyAt t ns) ns (first_empty t ns)
-unfolding first_empty
 first_empty_is t [] = λ k p. absurd (let h = p.0 in omega arith)
 first_empty_is t (n ∷ ns) = ⊎_elim
-    (λ e. subst (FirstIn (EmptyAt t (n ∷ ns)) (n ∷ ns)) (sym (ap (λ b. elim b [ true ↦ Some n | false ↦ first_empty t ns ]) e))
+    (λ e. subst (FirstIn (EmptyAt t (n ∷ ns)) (n ∷ ns)) (sym (ap (λ b. cond b (Some n) (first_empty t ns)) e))
     (in_front (EmptyAt t (n ∷ ns)) n ns (omega arith, empty_true (t n) e)))
-    (λ e. subst (FirstIn (EmptyAt t (n ∷ ns)) (n ∷ ns)) (sym (ap (λ b. elim b [ true ↦ Some n | false ↦ first_empty t ns ]) e))
+    (λ e. subst (FirstIn (EmptyAt t (n ∷ ns)) (n ∷ ns)) (sym (ap (λ b. cond b (Some n) (first_empty t ns)) e))
     (behind (EmptyAt t (n ∷ ns)) (EmptyAt t ns) n ns (first_empty t ns) (λ p. empty_false (t n) e p.1)
     (λ k p. (let h = p.0 in omega arith, p.1)) (λ k p. (let h = p.0 in omega arith, p.1)) (first_empty_is t ns)))
     (cases_Bool (is_empty (t n)))

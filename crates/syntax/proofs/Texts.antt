@@ -1,20 +1,12 @@
 -- Delimiters are UTF-8.
-use Rattle.std.proofs.Common.{◌≡◌, ℕ, zero, suc, ◌≤◌, List, [], ◌∷◌, ◌++◌, length, take, IsUtf8, sym, refl, ap, ◌∙◌, arith, length-take}
+use Rattle.std.proofs.Common.{◌≡◌, ℕ, ◌≤◌, List, [], ◌++◌, length, take, IsUtf8, sym, refl, ap, ◌∙◌, arith, length-take}
 use Rattle.std.proofs.lemmas.List.{take_at}
 use Rattle.utf8.specs.Utf8.{prefix, prefix_after}
-use Rattle.utf8.proofs.Rows.{lead_00}
 use Rattle.utf8.proofs.Laws.{whole_utf8}
 
 pub text_none : prefix [] ≡ 0
 unfolding prefix_after
 text_none = refl
-
-text_one : (a : ℕ) (xs : List ℕ) → a ≤ 127 → prefix (a ∷ xs) ≡ suc (prefix xs)
-unfolding prefix_after
-text_one a xs h = ap (λ w. elim w [ zero ↦ 0 | suc n ↦ suc (prefix_after n xs) ]) (lead_00 a xs h)
-
-pub text_pair : (a b : ℕ) → a ≤ 127 → b ≤ 127 → prefix (a ∷ b ∷ []) ≡ 2
-text_pair a b g h = text_one a (b ∷ []) g ∙ ap suc (text_one b [] h ∙ ap suc text_none)
 
 -- bytes that were written to the front are what is read there
 pub text_front : (xs ys rest : List ℕ) → xs ≡ ys → prefix ys ≡ length ys → prefix (take (length ys) (xs ++ rest)) ≡ length ys

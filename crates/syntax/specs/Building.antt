@@ -1,5 +1,6 @@
 -- What building tests.
 use Rattle.std.specs.Prelude.{◌≡◌, ℕ, ◌<◌, Bool, true, false, List, [], ◌∷◌, ◌++◌, map, length, take, Some, None, Ok, Err, Option, Result, ◌==◌, ◌≢◌, slice_index_or}
+use Rattle.std.specs.List.{find, list_any}
 use Rattle.std.specs.Str.{bytes_eq}
 use Rattle.syntax.specs.declared.delimiter.Delimiter.{Delimiter}
 use Rattle.syntax.specs.declared.name.DelimiterName.{DelimiterName}
@@ -22,14 +23,12 @@ abbrev pub is_empty : List ℕ → Bool
 is_empty xs = length xs == 0
 
 -- the first of the names whose delimiter is empty
-unfoldable pub first_empty : Table → List DelimiterName → Option DelimiterName
-first_empty t [] = None
-first_empty t (n ∷ ns) = elim (is_empty (t n)) [ true ↦ Some n | false ↦ first_empty t ns ]
+abbrev pub first_empty : Table → List DelimiterName → Option DelimiterName
+first_empty t ns = find (λ n. is_empty (t n)) ns
 
 -- one of the names has a delimiter of these bytes
-unfoldable pub any_same : Table → List ℕ → List DelimiterName → Bool
-any_same t xs [] = false
-any_same t xs (n ∷ ns) = elim (bytes_eq (t n) xs) [ true ↦ true | false ↦ any_same t xs ns ]
+abbrev pub any_same : Table → List ℕ → List DelimiterName → Bool
+any_same t xs ns = list_any (λ n. bytes_eq (t n) xs) ns
 
 -- the name's delimiter is not empty, and equals that of one of the earlier names
 abbrev pub repeats : Table → List DelimiterName → DelimiterName → Bool

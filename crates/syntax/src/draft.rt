@@ -14,7 +14,7 @@ use super::whitespace::WhitespaceConfig;
 use utf8::check_utf8;
 
 // Eight delimiters and the whitespace flags, which can be replaced until settings are built.
-#[derive(Drop)]
+#[derive(Debug, Drop)]
 pub struct Draft {
     pub(crate) delims: [Delimiter; 8],
     pub(crate) whitespace: WhitespaceConfig,
@@ -28,21 +28,19 @@ impl Draft {
         ensures builds { build_told (delim_of result) ≡ Ok tt }
     {
         let delims = [
-            Delimiter::new(b"{%"),
-            Delimiter::new(b"%}"),
-            Delimiter::new(b"{{"),
-            Delimiter::new(b"}}"),
-            Delimiter::new(b"{#"),
-            Delimiter::new(b"#}"),
-            Delimiter::new(b""),
-            Delimiter::new(b""),
+            Delimiter::new("{%"),
+            Delimiter::new("%}"),
+            Delimiter::new("{{"),
+            Delimiter::new("}}"),
+            Delimiter::new("{#"),
+            Delimiter::new("#}"),
+            Delimiter::new(""),
+            Delimiter::new(""),
         ];
-        let whitespace = WhitespaceConfig {
-            keep_trailing_newline: false,
-            lstrip_blocks: false,
-            trim_blocks: false,
-        };
-        Draft { delims, whitespace }
+        Draft {
+            delims,
+            whitespace: WhitespaceConfig::default(),
+        }
     }
 
     // Replaces one delimiter, unless it has over 16 bytes or is not UTF-8: then nothing is changed.
@@ -56,9 +54,7 @@ impl Draft {
         if bytes.len() > 16 {
             return Err(SyntaxFault::TooLong(which));
         }
-        if let Err(fault) = check_utf8(bytes) {
-            return Err(SyntaxFault::NotUtf8(which, fault));
-        }
+        check_utf8(bytes).map_err(|fault| SyntaxFault::NotUtf8(which, fault))?;
         self.delims[which.index()].rewrite(bytes);
         Ok(())
     }

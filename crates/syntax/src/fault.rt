@@ -1,12 +1,14 @@
 // Refusals.
-ghost use Rattle.std.specs.Prelude.{◌≡◌};
-ghost use Rattle.syntax.specs.Faults.{told};
+ghost use Rattle.std.specs.Prelude.{◌≡◌, Some};
+ghost use Rattle.syntax.specs.Faults.{told, fault_text};
 
 use super::name::DelimiterName;
+use std::error::Error;
+use std::fmt;
 use utf8::NotUtf8;
 
 // A delimiter of over 16 bytes; one that is not UTF-8; an empty one; an opening that equals an earlier one.
-#[derive(Clone, Copy)]
+#[derive(Clone, Copy, Debug, PartialEq, Eq)]
 pub enum SyntaxFault {
     TooLong(DelimiterName),
     NotUtf8(DelimiterName, NotUtf8),
@@ -32,10 +34,10 @@ impl SyntaxFault {
         ensures { result ≡ (told self).name }
     {
         match self {
-            SyntaxFault::TooLong(name) => name,
-            SyntaxFault::NotUtf8(name, _) => name,
-            SyntaxFault::Empty(name) => name,
-            SyntaxFault::Equal(name) => name,
+            SyntaxFault::TooLong(name)
+            | SyntaxFault::NotUtf8(name, _)
+            | SyntaxFault::Empty(name)
+            | SyntaxFault::Equal(name) => name,
         }
     }
 
@@ -49,3 +51,21 @@ impl SyntaxFault {
         }
     }
 }
+
+// Shown by the delimiter's name and what is wrong with it.
+impl fmt::Display for SyntaxFault {
+    ghost output = { λ f. Some (fault_text f) };
+
+    fn fmt<W: fmt::Write>(&self, f: &mut fmt::Formatter<W>) -> fmt::Result {
+        match self {
+            SyntaxFault::TooLong(name) => write!(f, "{name} has over 16 bytes"),
+            SyntaxFault::NotUtf8(name, fault) => {
+                write!(f, "{name} is not UTF-8 from byte {} on", fault.byte)
+            }
+            SyntaxFault::Empty(name) => write!(f, "{name} is empty"),
+            SyntaxFault::Equal(name) => write!(f, "{name} equals an earlier opening"),
+        }
+    }
+}
+
+impl Error for SyntaxFault {}

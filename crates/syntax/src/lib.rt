@@ -5,9 +5,7 @@
 pub mod delimiter;
 pub mod draft;
 pub mod fault;
-mod lookup;
 pub mod name;
-mod rewriting;
 pub mod settings;
 mod table;
 pub mod whitespace;

@@ -1,21 +1,12 @@
 // Tables of eight delimiters.
-ghost use Rattle.std.specs.Prelude.{◌≡◌, ◌≤◌, [], length, IsUtf8};
+ghost use Rattle.std.specs.Prelude.{◌≡◌, []};
+ghost use Rattle.syntax.specs.Delims.{bytes_of};
 ghost use Rattle.syntax.specs.Building.{table_of, first_empty, first_equal};
 ghost use Rattle.syntax.specs.Building.{repeats as repeating};
 ghost use Rattle.syntax.specs.Names.{required_names, opening_names};
 
 use super::delimiter::Delimiter;
 use super::name::DelimiterName;
-
-// The delimiters that may not be empty, in the order in which they are tested.
-const REQUIRED: [DelimiterName; 6] = [
-    DelimiterName::BlockStart,
-    DelimiterName::BlockEnd,
-    DelimiterName::VariableStart,
-    DelimiterName::VariableEnd,
-    DelimiterName::CommentStart,
-    DelimiterName::CommentEnd,
-];
 
 // The delimiters that open, in the order in which they are compared.
 const OPENINGS: [DelimiterName; 5] = [
@@ -26,41 +17,32 @@ const OPENINGS: [DelimiterName; 5] = [
     DelimiterName::LineCommentPrefix,
 ];
 
-// The bytes of a delimiter.
-pub(crate) fn entry(delims: &[Delimiter; 8], which: DelimiterName) -> &[u8]
-    ensures value { result.now ≡ table_of delims.now which }
-    ensures fits { length result.now ≤ 16 }
-    ensures text { IsUtf8 result.now }
+// The delimiter of a name.
+pub(crate) fn entry(delims: &[Delimiter; 8], which: DelimiterName) -> &Delimiter
+    ensures { bytes_of result.now ≡ table_of delims.now which }
 {
-    delims[which.index()].as_bytes()
+    &delims[which.index()]
 }
 
-// The first delimiter that must not be empty and is.
+// The first delimiter that must not be empty and is: only the last two, the line prefixes, may be.
 pub(crate) fn first_empty(delims: &[Delimiter; 8]) -> Option<DelimiterName>
     ensures { result ≡ first_empty (table_of delims.now) required_names }
 {
-    for name in &REQUIRED {
-        if entry(delims, *name).is_empty() {
-            return Some(*name);
-        }
-    }
-    None
+    DelimiterName::ALL[..6]
+        .iter()
+        .copied()
+        .find(|name| entry(delims, *name).as_bytes().is_empty())
 }
 
 // Whether a delimiter is not empty and equals one of the earlier ones.
 fn repeats(delims: &[Delimiter; 8], earlier: &[DelimiterName], name: DelimiterName) -> bool
     ensures { result ≡ repeating (table_of delims.now) earlier.now name }
 {
-    let bytes = entry(delims, name);
-    if bytes.is_empty() {
-        return false;
-    }
-    for other in earlier {
-        if entry(delims, *other) == bytes {
-            return true;
-        }
-    }
-    false
+    let bytes = entry(delims, name).as_bytes();
+    !bytes.is_empty()
+        && earlier
+            .iter()
+            .any(|other| entry(delims, *other).as_bytes() == bytes)
 }
 
 // The first opening that equals an earlier one.

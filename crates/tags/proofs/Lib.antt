@@ -1,4 +1,2 @@
-pub mod Literals
-pub mod Inside
-pub mod Ending
-pub mod Dots
+mod Literals
+mod Dots

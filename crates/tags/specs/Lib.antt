@@ -1,3 +1,4 @@
 pub mod Names
 pub mod Balances
 pub mod Ends
+pub mod Tag

@@ -1,30 +1,18 @@
 // The ends of tags.
-ghost use Rattle.std.specs.Prelude.{◌≡◌, ℕ, List, ◌∷◌, drop, Some as just, None as nothing};
-ghost use Rattle.rules.specs.Config.{config_of};
+ghost use Rattle.std.specs.Prelude.{◌≡◌, drop, Some as just, Ok as ok, option_copied, option_map};
+ghost use Rattle.rules.specs.Cursors.{config_at, ahead};
 ghost use Rattle.rules.specs.Tags.{end_of, trim_by, closing as closing_at, closes as closes_at, is_zero, close as close_at, line_rest, statement_end};
 ghost use Rattle.spaces.specs.Runs.{white_run};
 ghost use Rattle.spaces.specs.Spaces.{white_space, in_line};
 ghost use Rattle.tags.specs.Ends.{signed_end};
 
-use super::verdicts::plain;
+use super::tag::Tag;
 use byte_search::{after, starts_with_bytes};
 use pieces::Kind;
-use rules::{BlockSentinel, LexerState, Pending, Verdict, Whitespace};
-use signs::{handle_tail_ws, sign_at};
+use rules::{BlockSentinel, LexerState, Pending, Step, Whitespace};
+use signs::handle_tail_ws;
 use spaces::{InlineWhite, line_end, run_forward, white_space};
-use syntax::{DelimiterName, Settings};
-
-// What ends the tag; a line statement has no such end.
-fn end_of(settings: &Settings, sentinel: BlockSentinel) -> Option<&[u8]>
-    ensures { elim result [ nothing ↦ end_of (config_of settings.now) sentinel ≡ nothing | just e ↦ end_of (config_of settings.now) sentinel ≡ just e.now ] }
-{
-    match sentinel {
-        BlockSentinel::Variable => Some(settings.delimiter(DelimiterName::VariableEnd)),
-        BlockSentinel::Expression => Some(settings.delimiter(DelimiterName::VariableEnd)),
-        BlockSentinel::Block => Some(settings.delimiter(DelimiterName::BlockEnd)),
-        BlockSentinel::LineStatement => None,
-    }
-}
+use syntax::DelimiterName;
 
 // `-` orders a trim behind a variable.
 fn trim_by(ws: Whitespace) -> Pending
@@ -32,34 +20,7 @@ fn trim_by(ws: Whitespace) -> Pending
 {
     match ws {
         Whitespace::Remove => Pending::Trim,
-        _ => Pending::Nothing,
-    }
-}
-
-// An end of so many bytes with its sign.
-fn closing(
-    settings: &Settings,
-    sentinel: BlockSentinel,
-    ws: Whitespace,
-    len: usize,
-    rest: &[u8],
-) -> Verdict
-    ensures { result ≡ closing_at (config_of settings.now) sentinel ws len rest.now }
-{
-    match sentinel {
-        BlockSentinel::Variable => {
-            plain(Kind::VariableEnd, len, LexerState::Template, trim_by(ws))
-        }
-        BlockSentinel::Expression => {
-            plain(Kind::VariableEnd, len, LexerState::Over, Pending::Nothing)
-        }
-        BlockSentinel::Block => {
-            let pending = handle_tail_ws(settings, ws, after(rest, len));
-            plain(Kind::BlockEnd, len, LexerState::Template, pending)
-        }
-        BlockSentinel::LineStatement => {
-            plain(Kind::BlockEnd, len, LexerState::Template, Pending::Nothing)
-        }
+        Whitespace::Preserve | Whitespace::Default => Pending::Nothing,
     }
 }
 
@@ -73,44 +34,6 @@ fn signed_end(end: &[u8], rest: &[u8]) -> bool
     }
 }
 
-// The end of the tag at the front: a sign and the end are tried first, then the end alone.
-fn closes(settings: &Settings, sentinel: BlockSentinel, end: &[u8], rest: &[u8]) -> Option<Verdict>
-    ensures { (x : ℕ) (xs : List ℕ) → rest.now ≡ x ∷ xs → result ≡ closes_at (config_of settings.now) sentinel end.now x xs }
-{
-    if signed_end(end, rest) {
-        let ws = sign_at(rest);
-        return Some(closing(settings, sentinel, ws, end.len() + 1, rest));
-    }
-    if starts_with_bytes(rest, end) {
-        let ws = Whitespace::Default;
-        return Some(closing(settings, sentinel, ws, end.len(), rest));
-    }
-    None
-}
-
-// Whether as many brackets are closed as are opened.
-fn is_balanced(balance: i64) -> bool
-    ensures { result ≡ is_zero balance }
-{
-    balance == 0
-}
-
-// The end of the tag at the front, at a balance of exactly 0.
-pub fn close(
-    settings: &Settings,
-    sentinel: BlockSentinel,
-    balance: i64,
-    rest: &[u8],
-) -> Option<Verdict>
-    ensures { (x : ℕ) (xs : List ℕ) → rest.now ≡ x ∷ xs → result ≡ close_at (config_of settings.now) sentinel balance x xs }
-{
-    if !is_balanced(balance) {
-        return None;
-    }
-    let end = end_of(settings, sentinel)?;
-    closes(settings, sentinel, end, rest)
-}
-
 // How many bytes White_Space other than CR and LF and the line end, or the template's end, have.
 fn line_rest(rest: &[u8]) -> Option<usize>
     ensures { result ≡ line_rest (white_run (in_line white_space) rest.now) (drop (white_run (in_line white_space) rest.now) rest.now) }
@@ -122,21 +45,83 @@ fn line_rest(rest: &[u8]) -> Option<usize>
         rest,
     );
     let behind = after(rest, white);
-    if behind.is_empty() {
-        return Some(white);
-    }
-    match line_end(behind) {
-        0 => None,
-        len => Some(white + len),
-    }
+    let end = line_end(behind);
+    (behind.is_empty() || end != 0).then_some(white + end)
 }
 
-// In a line statement at a balance of exactly 0: how many bytes White_Space other than CR and LF and the line end, or the template's end, have.
-pub fn statement_end(sentinel: BlockSentinel, balance: i64, rest: &[u8]) -> Option<usize>
-    ensures { (s : Settings) → result ≡ statement_end (config_of s) sentinel balance rest.now }
-{
-    match sentinel {
-        BlockSentinel::LineStatement if is_balanced(balance) => line_rest(rest),
-        _ => None,
+impl<'s> Tag<'s> {
+    ghost use Rattle.tags.specs.Tag.{at_tag};
+
+    // Whether as many brackets are closed as are opened.
+    fn is_balanced(&self) -> bool
+        ensures { result ≡ is_zero self.now.balance }
+    {
+        self.balance == 0
+    }
+
+    // What ends the tag; a line statement has no such end.
+    fn end(&self) -> Option<&'s [u8]>
+        ensures { option_copied result ≡ end_of (config_at self.now.here) self.now.sentinel }
+    {
+        let name = match self.sentinel {
+            BlockSentinel::Variable | BlockSentinel::Expression => DelimiterName::VariableEnd,
+            BlockSentinel::Block => DelimiterName::BlockEnd,
+            BlockSentinel::LineStatement => return None,
+        };
+        Some(self.here.settings.delimiter(name))
+    }
+
+    // An end of so many bytes with its sign.
+    fn closing(&self, ws: Whitespace, len: usize) -> Step
+        ensures { ok (just result) ≡ closing_at (config_at self.now.here) self.now.sentinel ws len (ahead self.now.here) }
+    {
+        let (kind, state, pending) = match self.sentinel {
+            BlockSentinel::Variable => (Kind::VariableEnd, LexerState::Template, trim_by(ws)),
+            BlockSentinel::Expression => (Kind::VariableEnd, LexerState::Over, Pending::Nothing),
+            BlockSentinel::Block => {
+                let behind = after(self.here.ahead(), len);
+                let pending = handle_tail_ws(self.here.settings, ws, behind);
+                (Kind::BlockEnd, LexerState::Template, pending)
+            }
+            BlockSentinel::LineStatement => {
+                (Kind::BlockEnd, LexerState::Template, Pending::Nothing)
+            }
+        };
+        Step::plain(kind, len, state, pending)
+    }
+
+    // The end of the tag at the front: a sign and the end are tried first, then the end alone.
+    fn closes(&self, end: &[u8]) -> Option<Step>
+        ensures { option_map (λ p. ok (just p)) result ≡ at_tag (λ s bs k b x xs. closes_at s k end.now x xs) self.now }
+    {
+        let rest = self.here.ahead();
+        if signed_end(end, rest) {
+            return Some(self.closing(Whitespace::at_front(rest), end.len() + 1));
+        }
+        if starts_with_bytes(rest, end) {
+            return Some(self.closing(Whitespace::Default, end.len()));
+        }
+        None
+    }
+
+    // The end of the tag at the front, at a balance of exactly 0.
+    #[tactic(auto, unfolding(rules::specs::Tags::close))]
+    pub fn close(&self) -> Option<Step>
+        ensures { option_map (λ p. ok (just p)) result ≡ at_tag (λ s bs. close_at s) self.now }
+    {
+        if !self.is_balanced() {
+            return None;
+        }
+        self.closes(self.end()?)
+    }
+
+    // In a line statement at a balance of exactly 0: how many bytes White_Space other than CR and LF and the line end, or the template's end, have.
+    pub fn statement_end(&self) -> Option<usize>
+        ensures { result ≡ statement_end (config_at self.now.here) self.now.sentinel self.now.balance (ahead self.now.here) }
+    {
+        match self.sentinel {
+            BlockSentinel::LineStatement if self.is_balanced() => line_rest(self.here.ahead()),
+            _ => None,
+        }
     }
 }

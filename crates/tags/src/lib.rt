@@ -5,6 +5,5 @@
 mod ends;
 mod tag;
 mod tokens;
-mod verdicts;
 
 pub use tag::tokenize_block_or_var;

@@ -1,100 +1,95 @@
 // What comes inside a tag.
-ghost use Rattle.std.specs.Prelude.{◌≡◌, ℕ, ◌≤◌, List, [], ◌∷◌, length, drop};
+ghost use Rattle.std.specs.Prelude.{◌≡◌, ◌<◌, ◌∷◌, length, Ok};
 ghost use Rattle.spaces.specs.Lines.{blank_run};
-ghost use Rattle.rules.specs.Bytes.{pushes, behind_at};
-ghost use Rattle.rules.specs.Config.{config_of};
+ghost use Rattle.rules.specs.Cursors.{config_at, behind, ahead};
 ghost use Rattle.rules.specs.Tags.{dot_behind, inside as inside_at, blanks as blanks_at, tag_end, tag_verdict};
 ghost use Rattle.tags.specs.Balances.{Moderate};
 
-use super::ends::{close, statement_end};
-use super::tokens::token;
-use super::verdicts::plain;
-use byte_search::{after, until};
 use pieces::Kind;
-use rules::{BlockSentinel, LexerState, Pending, Verdict};
+use rules::{BlockSentinel, Cursor, LexerState, Pending, Step, Verdict};
 use spaces::blank_run;
-use syntax::Settings;
 
-// Whether the bytes that were read end in a dot.
-fn ends_in_dot(read: &[u8]) -> bool
-    ensures { result ≡ dot_behind (pushes read.now []) }
-{
-    match read {
-        [.., last] => *last == b'.',
-        [] => false,
-    }
+// A place inside a tag, with bytes to come: what the tag was opened by, and the balance of its brackets, which one more keeps in an i64.
+#[derive(Clone, Copy)]
+pub struct Tag<'s> {
+    pub here: Cursor<'s>,
+    pub sentinel: BlockSentinel,
+    pub balance: i64,
+    ghost some: { 0 < length (ahead here) },
+    ghost moderate: { Moderate balance },
 }
 
-// The end of the tag, else a token.
-fn inside(
-    settings: &Settings,
-    after_dot: bool,
-    sentinel: BlockSentinel,
-    balance: i64,
-    rest: &[u8],
-) -> Verdict
-    requires { Moderate balance }
-    ensures { (behind : List ℕ) (x : ℕ) (xs : List ℕ) → dot_behind behind ≡ after_dot → rest.now ≡ x ∷ xs → result ≡ inside_at (config_of settings.now) behind sentinel balance x xs }
-{
-    match close(settings, sentinel, balance, rest) {
-        Some(verdict) => verdict,
-        None => token(after_dot, sentinel, balance, rest),
-    }
-}
+impl<'s> Tag<'s> {
+    ghost use Rattle.rules.specs.declared.LexerState.TheVariants.{Inside as inside_state};
+    ghost use Rattle.tags.specs.Tag.{at_tag};
 
-// ASCII blanks, which are passed over, else the end of the tag or a token.
-fn blanks(
-    settings: &Settings,
-    after_dot: bool,
-    sentinel: BlockSentinel,
-    balance: i64,
-    rest: &[u8],
-) -> Verdict
-    requires { Moderate balance }
-    ensures { (behind : List ℕ) (x : ℕ) (xs : List ℕ) → dot_behind behind ≡ after_dot → rest.now ≡ x ∷ xs → result ≡ blanks_at (config_of settings.now) behind sentinel balance x xs (blank_run (x ∷ xs)) }
-{
-    match blank_run(rest) {
-        0 => inside(settings, after_dot, sentinel, balance, rest),
-        len => {
-            let state = LexerState::Inside(sentinel, balance);
-            plain(Kind::White, len, state, Pending::Nothing)
+    // The state of the reading here.
+    pub fn state(&self) -> LexerState
+        ensures { result ≡ inside_state self.now.sentinel self.now.balance }
+    {
+        LexerState::Inside(self.sentinel, self.balance)
+    }
+
+    // Whether a dot is right ahead of this place.
+    #[tactic(auto, using(numbers::proofs::Lasts::ends_is, crate::proofs::Dots::dot_is))]
+    pub fn after_dot(&self) -> bool
+        ensures { result ≡ dot_behind (behind self.now.here) }
+    {
+        self.here.read().ends_with(b".")
+    }
+
+    // The end of the tag, else a token.
+    fn inside(&self) -> Verdict
+        ensures { result ≡ at_tag inside_at self.now }
+    {
+        match self.close() {
+            Some(step) => Ok(Some(step)),
+            None => self.token(),
+        }
+    }
+
+    // ASCII blanks, which are passed over, else the end of the tag or a token.
+    fn blanks(&self) -> Verdict
+        ensures { result ≡ at_tag (λ s bs k b x xs. blanks_at s bs k b x xs (blank_run (x ∷ xs))) self.now }
+    {
+        match blank_run(self.here.ahead()) {
+            0 => self.inside(),
+            len => Ok(Some(Step::plain(Kind::White, len, self.state(), Pending::Nothing))),
         }
     }
 }
 
 // The template's end: a line statement is closed there, and any other tag stays open.
-fn tag_end(sentinel: BlockSentinel) -> Verdict
-    ensures { result ≡ tag_end sentinel }
+fn tag_end(sentinel: BlockSentinel) -> Option<Step>
+    ensures { Ok result ≡ tag_end sentinel }
 {
     match sentinel {
         BlockSentinel::LineStatement => {
-            plain(Kind::BlockEnd, 0, LexerState::Template, Pending::Nothing)
+            Some(Step::plain(Kind::BlockEnd, 0, LexerState::Template, Pending::Nothing))
         }
-        _ => Verdict::End,
+        _ => None,
     }
 }
 
 // What comes inside a tag at a balance of brackets.
-pub fn tokenize_block_or_var(
-    settings: &Settings,
-    source: &[u8],
-    offset: usize,
-    sentinel: BlockSentinel,
-    balance: i64,
-) -> Verdict
-    requires within { offset ≤ length source.now }
-    requires moderate { Moderate balance }
-    ensures value { result ≡ tag_verdict (config_of settings.now) (behind_at source.now offset) sentinel balance (drop offset source.now) }
+#[tactic(auto, unfolding(rules::specs::Tags::tag_verdict))]
+pub fn tokenize_block_or_var(here: &Cursor, sentinel: BlockSentinel, balance: i64) -> Verdict
+    requires { Moderate balance }
+    ensures { result ≡ tag_verdict (config_at here.now) (behind here.now) sentinel balance (ahead here.now) }
 {
-    let rest = after(source, offset);
-    if rest.is_empty() {
-        return tag_end(sentinel);
+    if here.ahead().is_empty() {
+        return Ok(tag_end(sentinel));
     }
-    match statement_end(sentinel, balance, rest) {
-        Some(len) => plain(Kind::BlockEnd, len, LexerState::Template, Pending::Nothing),
-        None => {
-            let after_dot = ends_in_dot(until(source, offset));
-            blanks(settings, after_dot, sentinel, balance, rest)
+    let tag = Tag {
+        here: *here,
+        sentinel,
+        balance,
+    };
+    match tag.statement_end() {
+        Some(len) => {
+            let state = LexerState::Template;
+            Ok(Some(Step::plain(Kind::BlockEnd, len, state, Pending::Nothing)))
         }
+        None => tag.blanks(),
     }
 }

@@ -1,4 +1,3 @@
 pub mod Runs
 pub mod Alike
-pub mod Gaps
 pub mod Seeking

@@ -1,6 +1,6 @@
 -- Runs of bytes that pass a test, and the bytes of a line.
-use Rattle.std.proofs.Common.{◌≡◌, ℕ, zero, suc, ◌<◌, Bool, true, false, not, eqb, List, [], ◌∷◌, length, get_or, Some, None, sym, ap, subst, ⊎_elim, arith}
-use Rattle.std.proofs.lemmas.Bool.{cases_Bool, cases_order, both_ways, eqb-true, eq-eqb, or_cases, or_left, or_right}
+use Rattle.std.proofs.Common.{◌≡◌, ℕ, zero, suc, ◌<◌, Bool, true, false, not, eqb, List, [], ◌∷◌, length, get_or, Some, None, Option, unwrap_or, sym, ap, ⊎_elim, arith}
+use Rattle.std.proofs.lemmas.Bool.{eqb-true, or_cases}
 use Rattle.byte_search.specs.Search.{First, Among, HoldsAny}
 use Rattle.finder.specs.Finding.{is_line_end}
 use Rattle.rules.specs.Bytes.{in_line, run, LongestRun}
@@ -21,22 +21,13 @@ module _ (p : ℕ → Bool) where
   pub run_longest : (xs : List ℕ) → LongestRun p xs (run p xs)
   unfolding run
   run_longest [] = (omega arith, (λ k h. absurd (omega arith)), (λ h. absurd (omega arith)))
-  run_longest (x ∷ xs) =
-      ⊎_elim
-      (λ e. subst (LongestRun p (x ∷ xs)) (sym (run_yes x xs e)) (one_more x xs (run p xs) e (run_longest xs)))
-      (λ e. subst (LongestRun p (x ∷ xs)) (sym (run_no x xs e)) (omega arith, (λ k h. absurd (omega arith)), (λ h. e)))
-      (cases_Bool (p x))
+  run_longest (x ∷ xs) = grind (arith, run_longest xs, run_yes, run_no, one_more)
 
   -- an answer that is the longest run is `run`
   pub run_by : (xs : List ℕ) (n : ℕ) → LongestRun p xs n → n ≡ run p xs
   run_by xs n l =
       let m = run_longest xs in
-      ⊎_elim
-      (λ e. e)
-      (⊎_elim
-      (λ h. absurd (both_ways (p (get_or xs n 0)) (l.2 (omega (arith, m.0))) (m.1 n h)))
-      (λ h. absurd (both_ways (p (get_or xs (run p xs) 0)) (m.2 (omega (arith, l.0))) (l.1 (run p xs) h))))
-      (cases_order n (run p xs))
+      grind (arith, l.0, l.1, l.2, m.0, m.1, m.2)
 
 -- the first CR or LF ends the bytes of a line
 
@@ -44,15 +35,20 @@ ends_among : (b : ℕ) → is_line_end b ≡ true → Among (13 ∷ 10 ∷ []) b
 ends_among b e = ⊎_elim (λ f. (0, omega arith, sym (eqb-true b 13 f))) (λ f. (1, omega arith, sym (eqb-true b 10 f))) (or_cases (eqb b 13) (eqb b 10) e)
 
 among_ends : (b : ℕ) → Among (13 ∷ 10 ∷ []) b → is_line_end b ≡ true
-among_ends b (zero, h, e) = or_left (eqb b 13) (eqb b 10) (eq-eqb b 13 (sym e))
-among_ends b (suc zero, h, e) = or_right (eqb b 13) (eqb b 10) (eq-eqb b 10 (sym e))
+among_ends b (zero, h, e) = grind arith
+among_ends b (suc zero, h, e) = grind arith
 among_ends b (suc (suc j), h, e) = absurd (omega arith)
 
 line_byte : (xs : List ℕ) (k : ℕ) → k < length xs → (HoldsAny (13 ∷ 10 ∷ []) xs k → ⊥) → in_line (get_or xs k 0) ≡ true
-line_byte xs k h n = ⊎_elim (λ e. absurd (n (h, ends_among (get_or xs k 0) e))) (λ e. ap not e) (cases_Bool (is_line_end (get_or xs k 0)))
+line_byte xs k h n = grind (arith, ends_among)
 
-pub line_some : (xs : List ℕ) (d : ℕ) → First (HoldsAny (13 ∷ 10 ∷ []) xs) (Some d) → LongestRun in_line xs d
+line_some : (xs : List ℕ) (d : ℕ) → First (HoldsAny (13 ∷ 10 ∷ []) xs) (Some d) → LongestRun in_line xs d
 line_some xs d f = (omega (arith, f.0.0), (λ k h. line_byte xs k (omega (arith, f.0.0)) (f.1 k h)), (λ h. ap not (among_ends (get_or xs d 0) f.0.1)))
 
-pub line_none : (xs : List ℕ) → First (HoldsAny (13 ∷ 10 ∷ []) xs) None → LongestRun in_line xs (length xs)
+line_none : (xs : List ℕ) → First (HoldsAny (13 ∷ 10 ∷ []) xs) None → LongestRun in_line xs (length xs)
 line_none xs f = (omega arith, (λ k h. line_byte xs k h (f k)), (λ h. absurd (omega arith)))
+
+-- what comes before the first CR or LF, or all
+pub line_told : (xs : List ℕ) (r : Option ℕ) → First (HoldsAny (13 ∷ 10 ∷ []) xs) r → LongestRun in_line xs (unwrap_or r (length xs))
+line_told xs None f = line_none xs f
+line_told xs (Some d) f = line_some xs d f

@@ -5,38 +5,19 @@
 
 #![tactic(auto)]
 
-use anyhow::anyhow;
+use anyhow::Context;
 use finder::Finder;
 use finders::{DefaultFinder, StartMarkerMatcher};
 use hex_fields::field;
 use pieces::{Piece, ReadFault};
-use places::Place;
 use reader::{OpenFault, Reader};
+use std::io;
 use std::io::Read;
-use stream::{Answer, Ending, Stream};
+use stream::Stream;
 use syntax::{DelimiterName, Draft, Settings, SyntaxFault, WhitespaceConfig};
-
-const NAMES: [DelimiterName; 8] = [
-    DelimiterName::BlockStart,
-    DelimiterName::BlockEnd,
-    DelimiterName::VariableStart,
-    DelimiterName::VariableEnd,
-    DelimiterName::CommentStart,
-    DelimiterName::CommentEnd,
-    DelimiterName::LineStatementPrefix,
-    DelimiterName::LineCommentPrefix,
-];
 
 // The default delimiters as fields; these have a finder of their own.
 const DEFAULTS: &str = "7b25 257d 7b7b 7d7d 7b23 237d - - ";
-
-// The first field of a line, and what follows it.
-fn split(line: &str) -> anyhow::Result<(&str, &str)> {
-    match line.split_once(' ') {
-        Some(parts) => Ok(parts),
-        None => Err(anyhow!("a field is missing")),
-    }
-}
 
 // The flags that three letters set.
 fn flags(text: &str) -> WhitespaceConfig {
@@ -47,128 +28,114 @@ fn flags(text: &str) -> WhitespaceConfig {
     }
 }
 
-// Prints why there are no settings.
-fn show_refusal(rt: &HostRuntime, fault: SyntaxFault) -> anyhow::Result<()> {
-    let (number, which) = (fault.number(), fault.which().name());
+// Prints why there are no settings. The program `locate` reads delimiters and tells refusals in the same few lines: a crate for both would be longer.
+fn show_refusal(rt: &impl Print, fault: SyntaxFault) -> io::Result<()> {
+    let (number, which) = (fault.number(), fault.which());
     match fault.byte() {
-        Some(byte) => println!(rt; "refused {number} {which} {byte}")?,
-        None => println!(rt; "refused {number} {which}")?,
+        Some(byte) => println!(rt; "refused {number} {which} {byte}"),
+        None => println!(rt; "refused {number} {which}"),
     }
-    Ok(())
 }
 
 // Prints why a template is not opened.
-fn show_unopened(rt: &HostRuntime, fault: OpenFault) -> anyhow::Result<()> {
+fn show_unopened(rt: &impl Print, fault: OpenFault) -> io::Result<()> {
     let number = fault.number();
     match fault.byte() {
-        Some(byte) => println!(rt; "refused {number} {byte}")?,
-        None => println!(rt; "refused {number}")?,
+        Some(byte) => println!(rt; "refused {number} {byte}"),
+        None => println!(rt; "refused {number}"),
     }
-    Ok(())
-}
-
-// Prints a place, with a space behind it.
-fn show_place(rt: &HostRuntime, place: Place) -> anyhow::Result<()> {
-    let (line, column, offset) = (place.line, place.column, place.offset);
-    print!(rt; "{line}:{column}:{offset} ")?;
-    Ok(())
 }
 
 // Prints a piece.
-fn show_piece(rt: &HostRuntime, piece: Piece) -> anyhow::Result<()> {
-    let name = piece.kind.name();
-    print!(rt; "{name} ")?;
-    show_place(rt, piece.span.start)?;
-    show_place(rt, piece.span.end)?;
-    let (from, to) = (piece.text.start, piece.text.end);
-    print!(rt; "{from}-{to}")?;
+fn show_piece(rt: &impl Print, piece: Piece) -> io::Result<()> {
+    print!(rt; "{} {} {} ", piece.kind, piece.span.start, piece.span.end)?;
+    print!(rt; "{}-{}", piece.text.start, piece.text.end)?;
     if let Some(value) = piece.value {
         print!(rt; " ={value}")?;
     }
-    print!(rt; " ; ")?;
-    Ok(())
+    print!(rt; " ; ")
 }
 
 // Prints a fault and the balance.
-fn show_fault(rt: &HostRuntime, fault: ReadFault, balance: i64) -> anyhow::Result<()> {
-    let number = fault.kind.number();
-    print!(rt; "fault {number} ")?;
-    show_place(rt, fault.span.start)?;
-    show_place(rt, fault.span.end)?;
+fn show_fault(rt: &impl Print, fault: ReadFault, balance: i64) -> io::Result<()> {
+    print!(rt;
+        "fault {} {} {} {balance}",
+        fault.kind.number(),
+        fault.span.start,
+        fault.span.end
+    )?;
     match fault.kind.backslash() {
-        Some(backslash) => println!(rt; "{balance} @{backslash}")?,
-        None => println!(rt; "{balance}")?,
+        Some(backslash) => println!(rt; " @{backslash}"),
+        None => println!(rt; ""),
     }
-    Ok(())
-}
-
-// Prints how a reading ended.
-fn show_ending(rt: &HostRuntime, ending: Ending<ReadFault>, balance: i64) -> anyhow::Result<()> {
-    match ending {
-        Ending::Finished => println!(rt; "end {balance}")?,
-        Ending::Failed(fault) => show_fault(rt, fault, balance)?,
-    }
-    Ok(())
 }
 
 // Prints what a reader tells to the end.
-fn show<F: Finder>(rt: &HostRuntime, mut reader: Reader, finder: &F) -> anyhow::Result<()> {
+fn show<F: Finder>(rt: &impl Print, mut reader: Reader, finder: &F) -> io::Result<()> {
     loop {
         match reader.next(finder) {
-            Answer::Item(piece) => show_piece(rt, piece)?,
-            Answer::End(ending) => return show_ending(rt, ending, reader.close().balance),
+            Ok(Some(piece)) => show_piece(rt, piece)?,
+            Ok(None) => return println!(rt; "end {}", reader.close().balance),
+            Err(fault) => return show_fault(rt, fault, reader.close().balance),
         }
     }
 }
 
-// Reads a template or an expression with a finder of the settings.
-fn read(
-    rt: &HostRuntime,
-    settings: Settings,
-    default: bool,
-    mode: &str,
-    template: &[u8],
-) -> anyhow::Result<()> {
-    let mut reader = Reader::new(&settings);
-    let opened = match mode {
-        "e" => reader.open_expression(template),
-        _ => reader.open_template(template),
-    };
-    if let Err(fault) = opened {
-        return show_unopened(rt, fault);
+// Opens a template, or where the field says so an expression.
+fn open<'t>(settings: &Settings, mode: &str, template: &'t [u8]) -> Result<Reader<'t>, OpenFault> {
+    let mut reader = Reader::new(settings);
+    match mode {
+        "e" => reader.open_expression(template)?,
+        _ => reader.open_template(template)?,
     }
-    if default {
-        return show(rt, reader, &DefaultFinder);
+    Ok(reader)
+}
+
+// Reads what was opened, with this finder.
+fn read<F: Finder>(
+    rt: &impl Print,
+    opened: Result<Reader, OpenFault>,
+    finder: &F,
+) -> io::Result<()> {
+    match opened {
+        Ok(reader) => show(rt, reader, finder),
+        Err(fault) => show_unopened(rt, fault),
     }
-    show(rt, reader, &StartMarkerMatcher::new(&settings))
 }
 
 // Answers one line.
-fn answer(rt: &HostRuntime, line: &str) -> anyhow::Result<()> {
+fn answer(rt: &(impl AllocGlobal + Print), line: &str) -> anyhow::Result<()> {
     let mut draft = Draft::new();
-    let mut rest = line;
-    for which in NAMES {
-        let (text, more) = split(rest)?;
+    let mut fields = line.splitn(11, ' ');
+    for which in DelimiterName::ALL {
+        let text = fields.next().context("a field is missing")?;
         let bytes = field(rt.alloc(), text.as_bytes())?;
         if let Err(fault) = draft.set_delimiter(which, bytes.as_slice()) {
-            return show_refusal(rt, fault);
+            show_refusal(rt, fault)?;
+            return Ok(());
         }
-        rest = more;
     }
-    let (letters, more) = split(rest)?;
-    draft.set_whitespace(flags(letters));
-    let (mode, text) = split(more)?;
+    draft.set_whitespace(flags(fields.next().context("a field is missing")?));
+    let mode = fields.next().context("a field is missing")?;
+    let text = fields.next().context("a field is missing")?;
     let template = field(rt.alloc(), text.as_bytes())?;
-    let default = line.starts_with(DEFAULTS);
     match draft.build() {
-        Ok(settings) => read(rt, settings, default, mode, template.as_slice()),
-        Err(fault) => show_refusal(rt, fault),
+        Ok(settings) => {
+            let opened = open(&settings, mode, template.as_slice());
+            if line.starts_with(DEFAULTS) {
+                read(rt, opened, &DefaultFinder)?;
+            } else {
+                read(rt, opened, &StartMarkerMatcher::new(&settings))?;
+            }
+        }
+        Err(fault) => show_refusal(rt, fault)?,
     }
+    Ok(())
 }
 
-fn run(rt: &HostRuntime) -> anyhow::Result<()> {
+fn run(rt: &(impl AllocGlobal + Input + Print)) -> anyhow::Result<()> {
     let mut input = Vec::new(rt.alloc());
-    rt.stdin().read_to_end(&mut input)?;
+    rt.reader().read_to_end(&mut input)?;
     for line in std::str::from_utf8(input.as_slice())?.lines() {
         answer(rt, line)?;
     }

@@ -2,20 +2,13 @@
 ghost use Rattle.std.specs.Prelude.{◌≡◌, ◌<◌, length};
 ghost use Rattle.unescape.specs.Lines.{line_of, rest_of, bare};
 
-use byte_search::{after, memchr, until};
+use byte_search::memchr;
 
 // A line without the CR that ends it, if one does.
 fn without_cr(line: &[u8]) -> &[u8]
     ensures { result.now ≡ bare line.now }
 {
-    let n = line.len();
-    if n == 0 {
-        return line;
-    }
-    if line[n - 1] == b'\r' {
-        return until(line, n - 1);
-    }
-    line
+    line.strip_suffix(b"\r").unwrap_or(line)
 }
 
 // The first line, without its LF or CR LF, and what follows it.
@@ -25,7 +18,7 @@ pub fn next_line(input: &[u8]) -> (&[u8], &[u8])
     ensures shorter { 0 < length input.now → length result.1.now < length input.now }
 {
     match memchr(input, b'\n') {
-        Some(end) => (without_cr(until(input, end)), after(input, end + 1)),
+        Some(end) => (without_cr(&input[..end]), &input[end + 1..]),
         None => (input, &[]),
     }
 }

@@ -1,10 +1,11 @@
 -- The laws of characters, their list and the well-formed prefix.
-use Rattle.std.proofs.Common.{◌≡◌, ℕ, zero, suc, ◌+◌, ◌-◌, ◌<◌, ◌≤◌, true, false, ◌⊎◌, List, [], ◌∷◌, ◌++◌, map, length, take, drop, Some, None, Ok, Err, IsUtf8, Option, sym, refl, ap, ◌∙◌, subst, inl, inr, ⊎_elim, arith, take-add}
+use Rattle.std.proofs.Common.{◌≡◌, ℕ, zero, suc, ◌+◌, ◌-◌, ◌<◌, ◌≤◌, true, false, ◌⊎◌, List, [], ◌∷◌, ◌++◌, map, length, take, drop, Some, None, Ok, Err, IsUtf8, Option, Result, sym, refl, ap, ◌∙◌, subst, inl, inr, ⊎_elim, arith, take-add}
 use lib.Utf8.{scalar, scalars, encode, encodes}
 use Rattle.std.specs.Str.{IsValidUpTo}
-use Rattle.std.proofs.lemmas.List.{take-append-drop, length-drop, length-take, length-append, take_all, append_assoc, drop_at, drop-drop}
-use Rattle.std.proofs.lemmas.Bool.{and_parts, and_from, eq-eqb, ne_eqb}
+use Rattle.std.proofs.lemmas.List.{take-append-drop, length-drop, length-take, length-append, take_all, append_assoc, drop_at}
+use Rattle.std.proofs.lemmas.Bool.{and_parts, and_from, eq-eqb, ne_eqb, cases_lt}
 use Rattle.utf8.specs.declared.Char.{Char}
+use Rattle.utf8.specs.declared.NotUtf8.{NotUtf8}
 use Rattle.utf8.specs.Utf8.{width, code_of, char_of, char_at, prefix_after, prefix, characters_after, characters, checked, Agrees}
 use Rattle.utf8.proofs.Chars.{Good, good, encoded, made}
 
@@ -198,32 +199,17 @@ prefix_valid xs h = record {
   longest = λ m g u. let l = prefix_longest xs m u in let t = length-take m xs in omega arith;
 }
 
--- a walk along the prefix that has come to `at`
-abbrev pub Walked : List ℕ → ℕ → Type 0
-Walked s at = (at ≤ length s) × (prefix s ≡ at + prefix (drop at s))
-
-pub walked_more : (s : List ℕ) (at : ℕ) (c : Char) → Walked s at → char_at (drop at s) ≡ Some c → Walked s (at + c.width)
-walked_more s at c w e =
-    let b = char_width (drop at s) c e in
-    let l = length-drop at s in
-    let p = prefix_more (drop at s) c e in
-    let q : prefix (drop c.width (drop at s)) ≡ prefix (drop (at + c.width) s) = ap prefix (drop-drop c.width at s) in
-    (omega arith, omega arith)
-
-pub walked_end : (s : List ℕ) (at : ℕ) → Walked s at → char_at (drop at s) ≡ None → prefix s ≡ at
-walked_end s at w e = let p = prefix_none (drop at s) e in omega arith
-
 pub checked_ok : (s : List ℕ) → prefix s ≡ length s → checked s ≡ Ok tt
 checked_ok s e = ap (λ b. elim b [ true ↦ Ok tt | false ↦ Err (record { byte = prefix s }) ]) (eq-eqb (prefix s) (length s) e)
 
 pub checked_err : (s : List ℕ) → prefix s < length s → checked s ≡ Err (record { byte = prefix s })
 checked_err s h = ap (λ b. elim b [ true ↦ Ok tt | false ↦ Err (record { byte = prefix s }) ]) (ne_eqb (prefix s) (length s) (λ t. omega arith))
 
--- what the check says, and that it agrees with the standard library
-pub agrees_ok : (s : List ℕ) (at : ℕ) → prefix s ≡ at → at ≡ length s → (Ok tt ≡ checked s) × Agrees s (Ok tt)
-agrees_ok s at p h = let e : prefix s ≡ length s = p ∙ h in (sym (checked_ok s e), whole_utf8 s e)
-
-pub agrees_err : (s : List ℕ) (at : ℕ) → prefix s ≡ at → at < length s → (Err (record { byte = at }) ≡ checked s) × Agrees s (Err (record { byte = at }))
-agrees_err s at p h =
-    let l : prefix s < length s = omega arith in
-    (ap (λ n. Err (record { byte = n })) (sym p) ∙ sym (checked_err s l), ((λ u. let w = utf8_whole s u in omega arith), subst (IsValidUpTo s) p (prefix_valid s l)))
+-- what agrees with the standard library is what the check says
+pub agrees_checked : (s : List ℕ) (r : Result Unit NotUtf8) → Agrees s r → r ≡ checked s
+agrees_checked s (Ok tt) u = sym (checked_ok s (utf8_whole s u))
+agrees_checked s (Err f) (n, v) =
+    let t = length-take f.byte s in
+    let l = prefix_longest s f.byte v.front in
+    let e : f.byte ≡ prefix s = ⊎_elim (λ h. absurd (v.longest (prefix s) h (prefix_utf8 s))) (λ h. omega (arith, v.short)) (cases_lt f.byte (prefix s)) in
+    ap (λ k. Err (record { byte = k })) e ∙ sym (checked_err s (omega (arith, v.short)))

@@ -1,6 +1,6 @@
 -- The character at a place, from the bytes there.
-use Rattle.std.proofs.Common.{◌≡◌, ℕ, zero, suc, ◌+◌, ◌-◌, ◌*◌, ◌<◌, ◌≤◌, ◌⊎◌, List, ◌∷◌, length, get_or, drop, Some, None, Option, sym, refl, ap, ◌∙◌, subst, inl, inr, ⊎_elim, arith}
-use Rattle.std.proofs.lemmas.List.{drop_more, drop_all, length-drop, get_or-drop}
+use Rattle.std.proofs.Common.{◌≡◌, ℕ, zero, suc, ◌+◌, ◌-◌, ◌*◌, ◌<◌, ◌≤◌, ◌⊎◌, List, [], ◌∷◌, length, get_or, drop, Some, None, Option, sym, refl, ap, ◌∙◌, subst, inl, inr, ⊎_elim, arith}
+use Rattle.std.proofs.lemmas.List.{drop_more, drop_all, length-drop, get_or_past}
 use Rattle.utf8.specs.declared.Char.{Char}
 use Rattle.utf8.specs.Utf8.{table, fits, width_by, width, char_of, char_at, Encoded, Second}
 use Rattle.utf8.proofs.Rows.{Follows, Sequence, of0, of1, of2, of3, of4, sequence, lead_00, width_2, width_3, width_4}
@@ -25,69 +25,75 @@ no_char : (n : ℕ) (xs : List ℕ) → (0 < n → ⊥) → char_of n xs ≡ Non
 no_char zero xs h = refl
 no_char (suc n) xs h = absurd (h (omega arith))
 
-pub past_end : (s : List ℕ) (at : ℕ) → length s ≤ at → char_at (drop at s) ≡ None
+no_bytes : None ≡ char_at []
 unfolding table fits width_by
-past_end s at h = ap char_at (drop_all at s h)
+no_bytes = refl
 
-module _ (s : List ℕ) (at : ℕ) where
-  abbrev a : ℕ
-  a = get_or s at 0
+pub short_1 : (xs : List ℕ) → length xs < 1 → None ≡ char_at xs
+short_1 [] h = no_bytes
+short_1 (x ∷ xs) h = absurd (omega arith)
 
+-- a first byte, and those behind it
+module _ (xs : List ℕ) (a : ℕ) (ys : List ℕ) (e : xs ≡ a ∷ ys) where
   abbrev b : ℕ
-  b = get_or s (at + 1) 0
+  b = get_or ys 0 0
 
   abbrev d : ℕ
-  d = get_or s (at + 2) 0
+  d = get_or ys 1 0
 
-  abbrev e : ℕ
-  e = get_or s (at + 3) 0
+  abbrev x : ℕ
+  x = get_or ys 2 0
 
-  read_at : 0 < width (drop at s) → Read a b d e
-  read_at p =
-      let z : at + 0 ≡ at = omega arith in
-      let f : get_or (drop at s) 0 0 ≡ get_or s at 0 = get_or-drop at s 0 0 ∙ ap (λ n. get_or s n 0) z in
-      rw (← f, ← get_or-drop at s 1 0, ← get_or-drop at s 2 0, ← get_or-drop at s 3 0) (read_by (drop at s) p (sequence (drop at s)))
-
-  refused : (Read a b d e → ⊥) → char_at (drop at s) ≡ None
-  refused h = no_char (width (drop at s)) (drop at s) (λ p. h (read_at p))
+  refused : (Read a b d x → ⊥) → None ≡ char_at xs
+  refused h = sym (no_char (width xs) xs (λ p. h (subst ReadAt e (read_by xs p (sequence xs)))))
 
   -- bytes that no row has
-  pub no_lead : 128 ≤ a → (a < 194) ⊎ (244 < a) → char_at (drop at s) ≡ None
+  pub no_lead : 128 ≤ a → (a < 194) ⊎ (244 < a) → None ≡ char_at xs
   no_lead g h = refused (λ r. ⊎_elim (λ t. absurd (omega arith)) (λ t. ⊎_elim (λ v. absurd (omega arith)) (λ v. absurd (omega arith)) h) r)
 
-  pub no_second : 128 ≤ a → (Second a b → ⊥) → char_at (drop at s) ≡ None
+  pub no_second : 128 ≤ a → (Second a b → ⊥) → None ≡ char_at xs
   no_second g h = refused (λ r. ⊎_elim (λ t. absurd (omega arith)) (λ t. h t.2) r)
 
-  pub no_third : 224 ≤ a → (Follows d → ⊥) → char_at (drop at s) ≡ None
+  pub no_third : 224 ≤ a → (Follows d → ⊥) → None ≡ char_at xs
   no_third g h = refused (λ r. ⊎_elim (λ t. absurd (omega arith)) (λ t. h (t.3 (omega arith))) r)
 
-  pub no_fourth : 240 ≤ a → (Follows e → ⊥) → char_at (drop at s) ≡ None
+  pub no_fourth : 240 ≤ a → (Follows x → ⊥) → None ≡ char_at xs
   no_fourth g h = refused (λ r. ⊎_elim (λ t. absurd (omega arith)) (λ t. h (t.4 (omega arith))) r)
 
+  pub short_2 : 128 ≤ a → length ys < 1 → None ≡ char_at xs
+  short_2 g h = no_second g (λ f. let z = get_or_past ys 0 0 (omega arith) in omega (arith, f.0))
+
+  pub short_3 : 224 ≤ a → length ys < 2 → None ≡ char_at xs
+  short_3 g h = no_third g (λ f. let z = get_or_past ys 1 0 (omega arith) in omega (arith, f.0))
+
+  pub short_4 : 240 ≤ a → length ys < 3 → None ≡ char_at xs
+  short_4 g h = no_fourth g (λ f. let z = get_or_past ys 2 0 (omega arith) in omega (arith, f.0))
+
   -- bytes of a row
-  first_at : at < length s → drop at s ≡ a ∷ drop (at + 1) s
-  first_at h = drop_more s at 0 h
+  cut_2 : 0 < length ys → xs ≡ a ∷ b ∷ drop 1 ys
+  cut_2 h = e ∙ ap (λ l. a ∷ l) (drop_more ys 0 0 h)
 
-  second_at : at + 1 < length s → drop at s ≡ a ∷ b ∷ drop (at + 2) s
-  second_at h = let z : at + 1 + 1 ≡ at + 2 = omega arith in first_at (omega arith) ∙ ap (λ l. a ∷ l) (drop_more s (at + 1) 0 h) ∙ ap (λ n. a ∷ b ∷ drop n s) z
+  cut_3 : 1 < length ys → xs ≡ a ∷ b ∷ d ∷ drop 2 ys
+  cut_3 h = cut_2 (omega arith) ∙ ap (λ l. a ∷ b ∷ l) (drop_more ys 1 0 h)
 
-  third_at : at + 2 < length s → drop at s ≡ a ∷ b ∷ d ∷ drop (at + 3) s
-  third_at h = let z : at + 2 + 1 ≡ at + 3 = omega arith in second_at (omega arith) ∙ ap (λ l. a ∷ b ∷ l) (drop_more s (at + 2) 0 h) ∙ ap (λ n. a ∷ b ∷ d ∷ drop n s) z
+  cut_4 : 2 < length ys → xs ≡ a ∷ b ∷ d ∷ x ∷ drop 3 ys
+  cut_4 h = cut_3 (omega arith) ∙ ap (λ l. a ∷ b ∷ d ∷ l) (drop_more ys 2 0 h)
 
-  fourth_at : at + 3 < length s → drop at s ≡ a ∷ b ∷ d ∷ e ∷ drop (at + 3 + 1) s
-  fourth_at h = third_at (omega arith) ∙ ap (λ l. a ∷ b ∷ d ∷ l) (drop_more s (at + 3) 0 h)
+  pub one_byte : (c : ℕ) → c ≡ a → a ≤ 127 → made c 1 ≡ char_at xs
+  one_byte c q k = ap (λ n. made n 1) q ∙ sym (ap char_at e ∙ ap (λ n. char_of n (a ∷ ys)) (lead_00 a ys k))
 
-  pub one_at : at < length s → a ≤ 127 → char_at (drop at s) ≡ Some (record { code = a; width = 1 })
-  one_at h k = ap char_at (first_at h) ∙ ap (λ n. char_of n (a ∷ drop (at + 1) s)) (lead_00 a (drop (at + 1) s) k)
+  pub two_bytes : 0 < length ys → 194 ≤ a → a ≤ 223 → Second a b → (r : Option Char) (n : ℕ) → r ≡ made n 2 → n ≡ (a - 192) * 64 + (b - 128) → r ≡ char_at xs
+  two_bytes h g k f r n p q = p ∙ ap (λ m. made m 2) q ∙ sym (ap char_at (cut_2 h) ∙ ap (λ m. char_of m (a ∷ b ∷ drop 1 ys)) (width_2 a b (drop 1 ys) g k (f.0, f.1)))
 
-  pub two_at : at + 1 < length s → 194 ≤ a → a ≤ 223 → Second a b → (r : Option Char) (x : ℕ) → r ≡ made x 2 → x ≡ (a - 192) * 64 + (b - 128) → r ≡ char_at (drop at s)
-  two_at h g k f r x p q = p ∙ ap (λ n. made n 2) q ∙ sym (ap char_at (second_at h) ∙ ap (λ n. char_of n (a ∷ b ∷ drop (at + 2) s)) (width_2 a b (drop (at + 2) s) g k (f.0, f.1)))
+  pub three_bytes : 1 < length ys → 224 ≤ a → a ≤ 239 → Second a b → Follows d → (r : Option Char) (n : ℕ) → r ≡ made n 3 → n ≡ (a - 224) * 4096 + (b - 128) * 64 + (d - 128) → r ≡ char_at xs
+  three_bytes h g k f m r n p q = p ∙ ap (λ i. made i 3) q ∙ sym (ap char_at (cut_3 h) ∙ ap (λ i. char_of i (a ∷ b ∷ d ∷ drop 2 ys)) (width_3 a b d (drop 2 ys) g k (f.0, f.1) m (λ t. f.2 (omega arith)) f.3))
 
-  pub three_at : at + 2 < length s → 224 ≤ a → a ≤ 239 → Second a b → Follows d → (r : Option Char) (x : ℕ) → r ≡ made x 3 → x ≡ (a - 224) * 4096 + (b - 128) * 64 + (d - 128) → r ≡ char_at (drop at s)
-  three_at h g k f m r x p q = p ∙ ap (λ n. made n 3) q ∙ sym (ap char_at (third_at h) ∙ ap (λ n. char_of n (a ∷ b ∷ d ∷ drop (at + 3) s)) (width_3 a b d (drop (at + 3) s) g k (f.0, f.1) m (λ t. f.2 (omega arith)) f.3))
+  pub four_bytes : 2 < length ys → 240 ≤ a → a ≤ 244 → Second a b → Follows d → Follows x → (r : Option Char) (n : ℕ) → r ≡ made n 4 → n ≡ (a - 240) * 262144 + (b - 128) * 4096 + (d - 128) * 64 + (x - 128) → r ≡ char_at xs
+  four_bytes h g k f m l r n p q = p ∙ ap (λ i. made i 4) q ∙ sym (ap char_at (cut_4 h) ∙ ap (λ i. char_of i (a ∷ b ∷ d ∷ x ∷ drop 3 ys)) (width_4 a b d x (drop 3 ys) g k (f.0, f.1) m l (λ t. f.4 (omega arith)) (λ t. f.5 (omega arith))))
 
-  pub four_at : at + 3 < length s → 240 ≤ a → a ≤ 244 → Second a b → Follows d → Follows e → (r : Option Char) (x : ℕ) → r ≡ made x 4 → x ≡ (a - 240) * 262144 + (b - 128) * 4096 + (d - 128) * 64 + (e - 128) → r ≡ char_at (drop at s)
-  four_at h g k f m n r x p q = p ∙ ap (λ n. made n 4) q ∙ sym (ap char_at (fourth_at h) ∙ ap (λ n. char_of n (a ∷ b ∷ d ∷ e ∷ drop (at + 3 + 1) s)) (width_4 a b d e (drop (at + 3 + 1) s) g k (f.0, f.1) m n (λ t. f.4 (omega arith)) (λ t. f.5 (omega arith))))
+module _ (s : List ℕ) (at : ℕ) where
+  pub past_end : length s < at → None ≡ char_at (drop at s)
+  past_end h = no_bytes ∙ sym (ap char_at (drop_all at s (omega arith)))
 
   -- a character is a scalar value that is encoded there
   pub encoded_at : (r : Option Char) → r ≡ char_at (drop at s) → Encoded s at r

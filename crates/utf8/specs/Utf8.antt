@@ -1,7 +1,8 @@
 -- UTF-8, as Table 3-7 of the Unicode Standard lists its well-formed byte sequences.
-use Rattle.std.specs.Prelude.{◌≡◌, ℕ, zero, suc, ◌+◌, ◌-◌, ◌*◌, ◌<◌, ◌≤◌, Bool, true, false, ◌&&◌, List, [], ◌∷◌, ◌++◌, length, take, drop, Some, None, Ok, Err, IsUtf8, Option, Result, ◌==◌, ◌≢◌, nat_le, slice_index}
+use Rattle.std.specs.Prelude.{◌≡◌, ℕ, zero, suc, ◌+◌, ◌-◌, ◌*◌, ◌<◌, ◌≤◌, Bool, true, false, ◌&&◌, List, [], ◌∷◌, ◌++◌, length, take, drop, Some, None, Ok, Err, IsUtf8, Option, Result, ◌==◌, ◌≢◌, nat_le, slice_index, codes}
 use Rattle.std.proofs.Math.Utf8.{scalar, encode}
 use Rattle.std.specs.Str.{IsValidUpTo}
+use Rattle.std.specs.Fmt.{decimal}
 use Rattle.utf8.specs.declared.Char.{Char}
 use Rattle.utf8.specs.declared.NotUtf8.{NotUtf8}
 
@@ -100,3 +101,7 @@ Agrees s (Err e) = (IsUtf8 s → ⊥) × IsValidUpTo s e.byte
 -- `b` lies in the range of the second byte in the row that `a` leads, where such a row has two bytes or more
 abbrev pub Second : ℕ → ℕ → Type 0
 Second a b = (0x80 ≤ b) × (b ≤ 0xBF) × (a ≡ 0xE0 → 0xA0 ≤ b) × (a ≡ 0xED → b ≤ 0x9F) × (a ≡ 0xF0 → 0x90 ≤ b) × (a ≡ 0xF4 → b ≤ 0x8F)
+
+-- what a refusal is in print
+abbrev pub not_utf8_text : NotUtf8 → List ℕ
+not_utf8_text e = codes "not UTF-8 from byte " ++ decimal e.byte ++ codes " on"

@@ -1,14 +1,13 @@
 -- The laws of first_standing: it finds the first operator with which the bytes begin.
-use Rattle.std.proofs.Common.{◌≡◌, ℕ, zero, suc, ◌<◌, true, false, List, [], ◌∷◌, length, get_or, drop, Some, None, Option, sym, refl, ap, ◌∙◌, subst, ⊎_elim, arith, lit<}
-use Rattle.std.specs.List.{AllByRecursion}
+use Rattle.std.proofs.Common.{◌≡◌, ℕ, zero, suc, ◌<◌, true, false, List, [], ◌∷◌, length, get_or, Some, None, Option, sym, refl, ap, subst, ⊎_elim, arith, lit<}
 use Rattle.std.proofs.lemmas.Bool.{cases_Bool, both_ways}
 use Rattle.byte_search.specs.Search.{stands_at}
-use Rattle.byte_search.proofs.Stands.{stands_split, stands_decides}
+use Rattle.byte_search.proofs.Stands.{stands_decides}
 use Rattle.pieces.specs.declared.kind.Operator.{Operator}
 use Rattle.pieces.specs.declared.kind.Operator.TheVariants.{Plus, Minus, Mul, Div, FloorDiv, Pow, Mod, Dot, Comma, Colon, Tilde, Assign, Pipe, Eq, Ne, Gt, Gte, Lt, Lte, BracketOpen, BracketClose, ParenOpen, ParenClose, BraceOpen, BraceClose}
 use Rattle.pieces.specs.Kinds.{operator_text}
 use Rattle.rules.specs.Tags.{operators, first_standing}
-use Rattle.words.specs.Operators.{singles, Begins, BeginsAt, FirstOperator}
+use Rattle.words.specs.Operators.{Begins, BeginsAt, FirstOperator}
 
 first_here : (o : Operator) (os : List Operator) (xs : List ℕ) → stands_at (operator_text o) xs ≡ true → first_standing (o ∷ os) xs ≡ Some o
 unfolding first_standing
@@ -76,49 +75,3 @@ first_told xs (Some o) t = t
 -- what first_standing answers, in words
 pub first_operator : (xs : List ℕ) (r : Option Operator) → r ≡ first_standing operators xs → FirstOperator xs r
 first_operator xs r e = subst (FirstOperator xs) (sym e) (first_told xs (first_standing operators xs) (told operators xs))
-
--- a byte that is known
-pub single_at : (r : Option Operator) (b n : ℕ) (rest : List ℕ) → b ≡ n → r ≡ first_standing singles (n ∷ rest) → r ≡ first_standing singles (b ∷ rest)
-single_at r b n rest e f = f ∙ ap (λ x. first_standing singles (x ∷ rest)) (sym e)
-
--- bytes that begin with none of the list
-pub none_stands : (os : List Operator) (xs : List ℕ) → AllByRecursion (λ o. stands_at (operator_text o) xs ≡ false) os → None ≡ first_standing os xs
-unfolding first_standing
-none_stands [] xs a = refl
-none_stands (o ∷ os) xs a = none_stands os xs a.1 ∙ sym (first_later o os xs a.0)
-
--- two bytes that are known
-pub two_at : (r : Option Operator) (xs : List ℕ) (a b : ℕ) → 1 < length xs → get_or xs 0 0 ≡ a → get_or xs 1 0 ≡ b → r ≡ first_standing operators (a ∷ b ∷ drop 2 xs) → r ≡ first_standing operators xs
-two_at r (x ∷ y ∷ ys) a b h e f g = g ∙ ap (first_standing operators) (cc)
-two_at r (x ∷ []) a b h e f g = absurd (omega arith)
-two_at r [] a b h e f g = absurd (omega arith)
-
--- two bytes that do not both stand at the front
-abbrev pub Apart : ℕ → ℕ → List ℕ → Type 0
-Apart a b xs = 1 < length xs → get_or xs 0 0 ≡ a → get_or xs 1 0 ≡ b → ⊥
-
-pair_apart : (a b : ℕ) (xs : List ℕ) → Apart a b xs → stands_at (a ∷ b ∷ []) xs ≡ false
-pair_apart a b xs n = ⊎_elim
-    (λ e. let s = stands_split (a ∷ b ∷ []) xs e in
-    absurd (n (omega (arith, ap length s)) (ap (λ l. get_or l 0 0) s) (ap (λ l. get_or l 1 0) s)))
-    (λ e. e)
-    (cases_Bool (stands_at (a ∷ b ∷ []) xs))
-
--- no operator of two bytes stands: the first byte decides
-pub no_pairs : (xs : List ℕ) (r : Option Operator) → 0 < length xs → Apart 47 47 xs → Apart 42 42 xs → Apart 61 61 xs → Apart 33 61 xs → Apart 62 61 xs → Apart 60 61 xs
-    → ((rest : List ℕ) → r ≡ first_standing singles (get_or xs 0 0 ∷ rest)) → r ≡ first_standing operators xs
-no_pairs [] r h a b c d e f s = absurd (omega arith)
-no_pairs (x ∷ ys) r h a b c d e f s =
-    let xs : List ℕ = x ∷ ys in
-    sym (first_later FloorDiv _ xs (pair_apart 47 47 xs a)
-    ∙ first_later Pow _ xs (pair_apart 42 42 xs b)
-    ∙ first_later Eq _ xs (pair_apart 61 61 xs c)
-    ∙ first_later Ne _ xs (pair_apart 33 61 xs d)
-    ∙ first_later Gte _ xs (pair_apart 62 61 xs e)
-    ∙ first_later Lte _ xs (pair_apart 60 61 xs f)
-    ∙ sym (s ys))
-
-pub empty_none : (xs : List ℕ) → length xs ≡ 0 → None ≡ first_standing operators xs
-unfolding first_standing stands_at
-empty_none [] h = refl
-empty_none (x ∷ xs) h = absurd (omega arith)

@@ -1,7 +1,7 @@
 -- The walk to the quote that closes a string.
-use Rattle.std.proofs.Common.{◌≡◌, ℕ, suc, ◌+◌, ◌%◌, ◌<◌, ◌≤◌, Bool, true, false, eqb, List, length, get_or, drop, Some, None, Option, sym, refl, ap, ◌∙◌, subst, ⊎_elim, add-one, arith, below_more}
+use Rattle.std.proofs.Common.{◌≡◌, ℕ, suc, ◌+◌, ◌%◌, ◌<◌, ◌≤◌, Bool, true, false, not, eqb, List, length, get_or, drop, Some, None, Option, sym, refl, ap, ◌∙◌, subst, ⊎_elim, add-one, arith, below_more}
 use Rattle.std.proofs.lemmas.List.{drop_more, drop_all}
-use Rattle.std.proofs.lemmas.Bool.{cases_eq, eq-eqb, ne_eqb, eqb-true, eqb-false}
+use Rattle.std.proofs.lemmas.Bool.{cases_eq, eq-eqb, ne_eqb, eqb-true, eqb-false, true≢false}
 use Rattle.byte_search.specs.Search.{further, First}
 use Rattle.rules.specs.Strings.{quote_end}
 use Rattle.words.specs.Quotes.{backslashes_before, Closes}
@@ -43,7 +43,7 @@ module _ (q : ℕ) (xs : List ℕ) where
 
   module _ (i : ℕ) (h : i < length xs) where
     -- the byte is escaped: it is passed over
-    pub open_escaped : Open true i → Open false (i + 1)
+    open_escaped : Open true i → Open false (i + 1)
     unfolding quote_end
     open_escaped (o, p, n) = (
       o ∙ ap (λ l. beyond i (quote_end q true l)) (drop_more xs i 0 h) ∙ beyond_further i (quote_end q false (drop (i + 1) xs)),
@@ -56,7 +56,7 @@ module _ (q : ℕ) (xs : List ℕ) where
     parity_by false e p = omega (arith, before_no i (eqb-false (get_or xs i 0) 92 (sym e)))
 
     -- the byte is not the quote, and may be a backslash
-    pub open_more : (get_or xs i 0 ≡ q → ⊥) → Open false i → Open (eqb (get_or xs i 0) 92) (i + 1)
+    open_more : (get_or xs i 0 ≡ q → ⊥) → Open false i → Open (eqb (get_or xs i 0) 92) (i + 1)
     unfolding quote_end
     open_more d (o, p, n) =
         let x : ℕ = get_or xs i 0 in
@@ -82,11 +82,10 @@ module _ (q : ℕ) (xs : List ℕ) where
     pub first_here : get_or xs i 0 ≡ q → Open false i → First (Closes q xs) (Some i)
     first_here e (o, p, n) = (((h, e), λ f. omega arith), n)
 
-    pub open_escaped_by : (t u : Bool) → t ≡ true → u ≡ false → Open t i → Open u (i + 1)
-    open_escaped_by t u e f o = subst (λ v. Open v (i + 1)) (sym f) (open_escaped (subst (λ v. Open v i) e o))
-
-    pub open_more_by : (t u : Bool) → t ≡ false → u ≡ eqb (get_or xs i 0) 92 → (get_or xs i 0 ≡ q → ⊥) → Open t i → Open u (i + 1)
-    open_more_by t u e f d o = subst (λ v. Open v (i + 1)) (sym f) (open_more d (subst (λ v. Open v i) e o))
+    -- the byte closes nothing, and the next is escaped where it is a backslash that is not
+    pub open_by : (t u : Bool) → (get_or xs i 0 ≡ q → t ≡ true) → (t ≡ false → u ≡ eqb (get_or xs i 0) 92) → (t ≡ true → u ≡ not t) → Open t i → Open u (i + 1)
+    open_by true u d a b o = subst (λ v. Open v (i + 1)) (sym (b refl)) (open_escaped o)
+    open_by false u d a b o = subst (λ v. Open v (i + 1)) (sym (a refl)) (open_more (λ h. true≢false (sym (d h))) o)
 
   -- every byte was passed
   pub open_all : (t : Bool) (i : ℕ) → length xs ≤ i → Open t i → None ≡ quote_end q false xs

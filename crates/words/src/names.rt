@@ -1,33 +1,28 @@
 // Identifiers.
 ghost use Rattle.std.specs.Prelude.{◌≡◌, true, slice_index};
-ghost use Rattle.rules.specs.Bytes.{leads_name, is_name_part, run, LongestRun};
+ghost use Rattle.std.specs.List.{prefix_len};
+ghost use Rattle.rules.specs.Bytes.{leads_name, is_name_part, LongestRun};
 ghost use Rattle.words.specs.Names.{ident_len};
 
 // Whether an identifier may begin with `b`: an ASCII letter or `_`.
 fn is_lead(b: u8) -> bool
     ensures { result ≡ leads_name b }
 {
-    matches!(b, b'a'..=b'z' | b'A'..=b'Z' | b'_')
+    b.is_ascii_alphabetic() || b == b'_'
 }
 
 // Whether `b` may stand in an identifier: an ASCII letter, a digit or `_`.
 fn is_part(b: u8) -> bool
     ensures { result ≡ is_name_part b }
 {
-    matches!(b, b'a'..=b'z' | b'A'..=b'Z' | b'_' | b'0'..=b'9')
+    b.is_ascii_alphanumeric() || b == b'_'
 }
 
 // How many bytes at the front may stand in an identifier.
 fn part_run(rest: &[u8]) -> usize
-    ensures value { result ≡ run is_name_part rest.now }
-    ensures longest { LongestRun is_name_part rest.now result }
+    ensures { result ≡ prefix_len is_name_part rest.now }
 {
-    for (i, b) in rest.iter().enumerate() {
-        if !is_part(*b) {
-            return i;
-        }
-    }
-    rest.len()
+    rest.iter().take_while(|b| is_part(**b)).count()
 }
 
 // How many bytes the identifier at the front has, 0 where none begins there.

@@ -6,6 +6,7 @@ ghost use Rattle.words.specs.Operators.{singles, FirstOperator};
 use pieces::Operator;
 
 // The operator of one byte that the byte is, if any.
+#[tactic(auto, unfolding(rules::specs::Tags::first_standing, byte_search::specs::Search::stands_at))]
 fn single(b: u8) -> Option<Operator>
     ensures { (rest : List ℕ) → result ≡ first_standing singles (b ∷ rest) }
 {
@@ -34,6 +35,7 @@ fn single(b: u8) -> Option<Operator>
 }
 
 // The operator at the front, if any: those of two bytes come first.
+#[tactic(auto, using(crate::proofs::Operating::first_operator), unfolding(rules::specs::Tags::first_standing, byte_search::specs::Search::stands_at))]
 pub fn operator(rest: &[u8]) -> Option<Operator>
     ensures value { result ≡ first_standing all_operators rest.now }
     ensures first { FirstOperator rest.now result }
@@ -56,12 +58,8 @@ pub fn weight(operator: Operator) -> i64
     ensures within { (negsuc 0 ≤ℤ result) × (result ≤ℤ pos 1) }
 {
     match operator {
-        Operator::ParenOpen => 1,
-        Operator::BracketOpen => 1,
-        Operator::BraceOpen => 1,
-        Operator::ParenClose => -1,
-        Operator::BracketClose => -1,
-        Operator::BraceClose => -1,
+        Operator::ParenOpen | Operator::BracketOpen | Operator::BraceOpen => 1,
+        Operator::ParenClose | Operator::BracketClose | Operator::BraceClose => -1,
         _ => 0,
     }
 }

@@ -1,9 +1,6 @@
-use Rattle.std.proofs.Common.{length, ap, ◌∙◌}
-use Rattle.std.proofs.lemmas.List.{length-drop}
-use Rattle.byte_search.proofs.Stands.{after_is}
+use Rattle.std.proofs.Common.{refl}
+use Rattle.std.proofs.lemmas.List.{take_rest, drop_min}
 use Rattle.byte_search.proofs.after.Goals as goal
 
-pub returns : goal.returns
-returns c =
-    let e = after_is c.args.s.now c.args.i c.min.result c.min.ensures in
-    record { value = e; len = ap length e ∙ length-drop c.args.i c.args.s.now }
+pub returns-clause-value : goal.returns-clause-value
+returns-clause-value c = rw (c.min.ensures, take_rest, drop_min) refl

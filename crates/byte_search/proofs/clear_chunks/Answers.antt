@@ -1,23 +1,14 @@
-use Rattle.std.proofs.Common.{arith}
-use Rattle.std.proofs.lemmas.Bool.Decides.{not_from_Decides}
-use Rattle.byte_search.proofs.Chunks.{clear_more, found_here}
+use Rattle.std.proofs.Common.{ℕ, List, rules, tests}
+use Rattle.std.proofs.lemmas.Iterator.{IsFirst-from_position, YieldsList-from_slice}
+use Rattle.byte_search.specs.Search.{HoldsAny}
+use Rattle.byte_search.proofs.Chunks.{chunks_cleared}
 use Rattle.byte_search.proofs.clear_chunks.Goals as goal
 
-pub returns-then-chunk_has_any : goal.returns-then-chunk_has_any
-returns-then-chunk_has_any c = record {
-  within = omega (arith, c.as_chunks.ensures.front_len);
-  clear = c.loop-i.invariant;
-  most = λ h. found_here c.args.haystack.now c.as_chunks.result.0.now c.as_chunks.ensures.front c.as_chunks.ensures.front_len c.loop-i.i c.loop-i-test.true c.args.needles.now (c.chunk_has_any.ensures.0 c.if-chunk_has_any.true);
-}
-
-pub loop-i-preserved : goal.loop-i-preserved
-loop-i-preserved c =
-    clear_more c.args.haystack.now c.as_chunks.result.0.now c.as_chunks.ensures.front c.as_chunks.ensures.front_len c.loop-i.i c.loop-i-test.true c.args.needles.now
-    (not_from_Decides c.chunk_has_any.result c.chunk_has_any.ensures c.if-chunk_has_any.false) c.loop-i.invariant
-
 pub returns : goal.returns
-returns c = record {
-  within = omega (arith, c.as_chunks.ensures.front_len);
-  clear = λ k h. c.loop-i.invariant k (omega arith);
-  most = λ h. absurd (omega (arith, c.as_chunks.ensures.front_len));
-}
+returns c =
+    let ns = c.args.needles.now in
+    let cs = c.as_chunks.result.0.now in
+    let has : List ℕ → Type 0 = λ ch. (k : ℕ) × HoldsAny ns ch k in
+    let f = IsFirst-from_position _ _ _ has (λ ch. has ch → ⊥) c.position-clear.ensures.ran (YieldsList-from_slice cs cc) (λ x q k. search (rules, tests)) (λ x q k. search (rules, tests)) in
+    let r = chunks_cleared c.args.haystack.now cs c.as_chunks.ensures.front c.as_chunks.ensures.front_len ns c.position-clear.result c.unwrap_or.result c.unwrap_or.ensures f in
+    record { within = r.0; clear = r.1; most = r.2 }

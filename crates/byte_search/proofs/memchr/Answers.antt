@@ -1,9 +1,8 @@
-use Rattle.byte_search.proofs.Firsts.{first_of_one}
+use Rattle.byte_search.proofs.Firsts.{first_of_byte, byte_by}
 use Rattle.byte_search.proofs.memchr.Goals as goal
 
-pub returns : goal.returns
-returns c = record {
-  value = c.memchr_any.ensures.value;
-  first = first_of_one c.args.needle c.args.haystack.now c.memchr_any.result c.memchr_any.ensures.first;
-  within = c.memchr_any.ensures.within;
-}
+pub returns-clause-value : goal.returns-clause-value
+returns-clause-value c = byte_by c.args.needle c.args.haystack.now _ (first_of_byte c.args.needle c.args.haystack.now _ c.memchr.ensures)
+
+pub returns-clause-first : goal.returns-clause-first
+returns-clause-first c = first_of_byte c.args.needle c.args.haystack.now _ c.memchr.ensures

@@ -2,7 +2,7 @@ use Rattle.std.proofs.Common.{◌-◌, ◌≤◌, length}
 use Rattle.openings.proofs.run.Given as goal
 
 abbrev pub invariant-loop-distance : goal.invariant-loop-distance
-invariant-loop-distance l = l.offset ≤ length l.source
+invariant-loop-distance g l = l.offset ≤ length l.source
 
 abbrev pub decreases-loop-distance : goal.decreases-loop-distance
-decreases-loop-distance l = length l.source - l.offset
+decreases-loop-distance g l = length l.source - l.offset

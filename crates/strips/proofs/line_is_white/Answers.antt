@@ -1,17 +1,12 @@
-use Rattle.std.proofs.Common.{sym, ◌∙◌, inl, inr, ⊎_elim}
-use Rattle.std.proofs.lemmas.Bool.{eq-eqb}
-use Rattle.strips.proofs.Whites.{told_by}
+use Rattle.strips.proofs.Whites.{told_none, told_last}
 use Rattle.strips.proofs.line_is_white.Goals as goal
 
-pub returns-then-start-eq0 : goal.returns-then-start-eq0
-returns-then-start-eq0 c =
-    let n = c.trim_end_inline-start.result in
-    let z = c.if-start-eq0.true in
-    let t = told_by c.args.source.now c.until-front.result.now c.args.at n _ c.until-front.ensures.value c.trim_end_inline-start.ensures.value (λ e. inl z, λ b. eq-eqb n 0 z) in
+pub returns-in-empty : goal.returns-in-empty
+returns-in-empty c =
+    let t = told_none c.args.source.now _ _ c.args.at _ c.until-front.ensures.value c.trim_end_inline.ensures.value c.trim_end_inline.ensures.within c.until.ensures.value c.in-empty.len_below in
     record { value = t.0; line = t.1 }
 
-pub returns-else-start-eq0 : goal.returns-else-start-eq0
-returns-else-start-eq0 c =
-    let t = told_by c.args.source.now c.until-front.result.now c.args.at c.trim_end_inline-start.result c.is_nl.result c.until-front.ensures.value c.trim_end_inline-start.ensures.value
-    (λ e. inr (sym c.is_nl.ensures ∙ e), λ b. ⊎_elim (λ z. absurd (c.if-start-eq0.false z)) (λ e. c.is_nl.ensures ∙ e) b) in
+pub returns-in-len1-up : goal.returns-in-len1-up
+returns-in-len1-up c =
+    let t = told_last c.args.source.now _ _ c.args.at _ c.until-front.ensures.value c.trim_end_inline.ensures.value c.trim_end_inline.ensures.within c.until.ensures.value _ c.in-len1-up.len_at_least c.is_nl.ensures in
     record { value = t.0; line = t.1 }

@@ -1,10 +1,6 @@
-use Rattle.std.proofs.Common.{◌-◌, length}
 use Rattle.finders.specs.Defaults.{default_openings}
-use Rattle.finders.proofs.Clear.{Clear}
+use Rattle.finders.proofs.Places.{Walked}
 use Rattle.finders.proofs.defaults.find_start_marker_memchr.Given as goal
 
-abbrev pub invariant-loop-d : goal.invariant-loop-d
-invariant-loop-d l = Clear default_openings l.source l.offset l.pos
-
-abbrev pub decreases-loop-d : goal.decreases-loop-d
-decreases-loop-d l = length l.source - l.pos
+abbrev pub invariant-loop-distance : goal.invariant-loop-distance
+invariant-loop-distance l = Walked 123 default_openings l.source l.rest l.offset l.distance-iterator

@@ -1,22 +1,15 @@
-use Rattle.std.proofs.Common.{◌∙◌}
-use Rattle.std.proofs.lemmas.Slice.Eq.{slice_eq-Decides}
+use Rattle.std.proofs.Common.{◌∙◌, rules, tests}
+use Rattle.std.specs.Str.{bytes_eq}
+use Rattle.std.proofs.lemmas.Iterator.{YieldsList-from_slice}
+use Rattle.std.proofs.lemmas.Iterator.Search.{any_from_yields_List}
+use Rattle.std.proofs.lemmas.Slice.Eq.{bytes_eq-Decides}
 use Rattle.syntax.specs.Building.{table_of}
-use Rattle.syntax.proofs.Walks.{test_same, repeats_by, same_here, same_more, same_all}
+use Rattle.syntax.proofs.Walks.{repeats_by}
 use Rattle.syntax.proofs.table.repeats.Goals as goal
-use Rattle.std.proofs.lemmas.Bool.Decides.{Decides-eqb}
 
-pub returns-then-eq : goal.returns-then-eq
-returns-then-eq c =
-    repeats_by (table_of c.args.delims.now) c.args.earlier.now c.args.name _ _ c.entry-bytes.ensures.value c.if-is_empty.ensures
-    (same_here (table_of c.args.delims.now) c.args.earlier.now c.loop-other.other-index c.entry-bytes.result.now c.loop-other-test.true c.loop-other.invariant
-    (test_same _ _ _ _ c.entry.ensures.value (slice_eq-Decides Decides-eqb _ _ _ c.eq.ensures) ∙ c.if-eq.true))
-
-pub loop-other-preserved : goal.loop-other-preserved
-loop-other-preserved c =
-    same_more (table_of c.args.delims.now) c.args.earlier.now c.loop-other.other-index c.entry-bytes.result.now c.loop-other-test.true c.loop-other.invariant
-    (test_same _ _ _ _ c.entry.ensures.value (slice_eq-Decides Decides-eqb _ _ _ c.eq.ensures) ∙ c.if-eq.false)
-
-pub returns : goal.returns
-returns c =
-    repeats_by (table_of c.args.delims.now) c.args.earlier.now c.args.name _ _ c.entry-bytes.ensures.value c.if-is_empty.ensures
-    (same_all (table_of c.args.delims.now) c.args.earlier.now c.loop-other.other-index c.entry-bytes.result.now c.loop-other-test.false c.loop-other.invariant)
+pub returns-then-not-is_empty : goal.returns-then-not-is_empty
+returns-then-not-is_empty c =
+    let t = table_of c.args.delims.now in
+    let bs = c.as_bytes-bytes.result.now in
+    repeats_by t c.args.earlier.now c.args.name bs c.any.result (c.as_bytes-bytes.ensures.value ∙ c.entry.ensures) (search rules)
+    (any_from_yields_List (λ m. bytes_eq (t m) bs) _ _ _ c.any.ensures.ran (YieldsList-from_slice c.args.earlier.now cc) (λ x b q k. search (rules, tests, bytes_eq-Decides)))

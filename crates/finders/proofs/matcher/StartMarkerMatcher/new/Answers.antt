@@ -7,16 +7,17 @@ use Rattle.finders.proofs.Same.{ordered_same}
 use Rattle.finders.proofs.Sorted.{ordered_has, has_ordered}
 use Rattle.finders.proofs.matcher.StartMarkerMatcher.new.Goals as goal
 
-pub returns : goal.returns
-returns c =
-    let s = c.args.settings.now in
-    let e = c.of-patterns.ensures in
-    record {
-      value = e;
-      holds = λ o h. subst (λ l. Has l o) (sym e) (ordered_has (openings_of s) o h);
-      only = λ o h. has_ordered (openings_of s) o (subst (λ l. Has l o) e h);
-      falling = c.of-patterns.result.falling;
-      same = λ xs i. ap (λ l. found_from l xs i) e ∙ ordered_same (openings_of s) xs i;
-      defaults = λ f. e ∙ default_table (setting_of s) f;
-      agrees = λ f xs i. ap (λ l. found_from l xs i) (e ∙ default_table (setting_of s) f);
-    }
+pub returns-clause-holds : goal.returns-clause-holds
+returns-clause-holds c = λ o h. subst (λ l. Has l o) (sym c.of.ensures) (ordered_has (openings_of c.args.settings.now) o h)
+
+pub returns-clause-only : goal.returns-clause-only
+returns-clause-only c = λ o h. has_ordered (openings_of c.args.settings.now) o (subst (λ l. Has l o) c.of.ensures h)
+
+pub returns-clause-same : goal.returns-clause-same
+returns-clause-same c = λ xs i. ap (λ l. found_from l xs i) c.of.ensures ∙ ordered_same (openings_of c.args.settings.now) xs i
+
+pub returns-clause-defaults : goal.returns-clause-defaults
+returns-clause-defaults c = λ f. c.of.ensures ∙ default_table (setting_of c.args.settings.now) f
+
+pub returns-clause-agrees : goal.returns-clause-agrees
+returns-clause-agrees c = λ f xs i. ap (λ l. found_from l xs i) (c.of.ensures ∙ default_table (setting_of c.args.settings.now) f)

@@ -1,8 +1,10 @@
-use Rattle.std.proofs.Common.{reverse, take, drop}
-use Rattle.finders.specs.Known.{Knows}
 use Rattle.finders.specs.Meant.{openings_in}
+use Rattle.finders.specs.Spots.{behind, ahead, Stays}
 use Rattle.finders.proofs.Sorted.{From}
 use Rattle.finders.proofs.patterns.Patterns.opening_at.Given as goal
 
-abbrev pub invariant-loop-i : goal.invariant-loop-i
-invariant-loop-i l = Knows l.source l.at l.line × From (reverse (take l.at l.source)) (drop l.at l.source) (openings_in l.self) l.i
+abbrev pub invariant-loop-pattern : goal.invariant-loop-pattern
+invariant-loop-pattern l = record {
+  stays : Stays l.initial.spot l.spot;
+  tried : From (behind l.initial.spot) (ahead l.initial.spot) (openings_in l.self) l.pattern-index;
+}

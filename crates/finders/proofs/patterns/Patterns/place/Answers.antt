@@ -1,24 +1,15 @@
-use Rattle.std.proofs.Common.{arith, below_more}
-use Rattle.finders.proofs.Held.{held_len, held_length}
+use Rattle.std.proofs.Common.{leb, length, sym, subst, rules, tests}
+use Rattle.std.proofs.lemmas.List.Sorted.{IsPartitionPoint-from_clause}
+use Rattle.syntax.specs.Delims.{bytes_of}
+use Rattle.finders.specs.Order.{Falling, Place}
+use Rattle.finders.proofs.Held.{falling_parts, parts_place}
 use Rattle.finders.proofs.patterns.Patterns.place.Goals as goal
 
-pub returns-then-self-i : goal.returns-then-self-i
-returns-then-self-i c =
-    let s = c.args.self.now in
-    record {
-      within = omega arith;
-      place = (c.loop-i.invariant, λ h. omega (arith, held_len s.count s.list c.loop-i.i c.index-self-i.result (omega arith) (omega arith)));
-    }
-
-pub loop-i-preserved : goal.loop-i-preserved
-loop-i-preserved c =
-    let s = c.args.self.now in
-    below_more _ _ c.loop-i.invariant (omega (arith, held_len s.count s.list c.loop-i.i c.index-self-i.result (omega arith) (omega arith)))
-
-pub returns : goal.returns
-returns c =
-    let s = c.args.self.now in
-    record {
-      within = omega arith;
-      place = (λ k h. c.loop-i.invariant k (omega arith), λ h. absurd (omega (arith, held_length s.count s.list (omega arith))));
-    }
+pub returns-clause-place : goal.returns-clause-place
+returns-clause-place c =
+    let ps = c.as_slice.result.now in
+    let e = c.as_slice.ensures.value in
+    subst (λ os. Place os c.args.len c.partition_point.result) e
+    (parts_place ps c.args.len c.partition_point.result c.partition_point.ensures.bound
+    (IsPartitionPoint-from_clause (λ p. leb c.args.len (length (bytes_of p.delimiter))) ps c.partition_point.result c.partition_point.ensures.partitioned
+    (falling_parts ps c.args.len (subst Falling (sym e) c.args.self.now.falling)) (λ x b q k. search (rules, tests))))
