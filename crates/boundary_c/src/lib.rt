@@ -1,5 +1,4 @@
 // The static library for C and Rust, `farkeztu_unescape` and `farkeztu_unescaped_len`: what they do stands in the crate `boundary`.
-// A static library exports its own functions only, so the two stand here again.
 // They are written out again, since a static library exports no function but its own.
 
 #![tactic(auto)]

@@ -3,7 +3,7 @@
 #![tactic(auto)]
 
 ghost use Rattle.std.specs.Prelude.{◌≡◌, ℕ, ◌+◌, ◌-◌, ◌<◌, ◌≤◌, min, List, [], ◌∷◌, ◌++◌, length, take, drop, Some, None, Decides};
-ghost use Rattle.byte_search.specs.Search.{stands_at, first_in, distance_to, First, Among, Holds, HoldsAny, Stands};
+ghost use Rattle.byte_search.specs.Search.{stands_at, first_in, distance_to, First, Holds, HoldsAny, Stands};
 
 use memchr::memmem;
 

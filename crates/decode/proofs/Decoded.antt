@@ -1,5 +1,5 @@
 -- A loop over what a text means.
-use Rattle.std.proofs.Common.{◌≡◌, ℕ, ◌+◌, ◌≤◌, true, false, eqb, List, ◌∷◌, ◌++◌, length, take, drop, Ok, Err, IsUtf8, sym, refl, ap, ◌∙◌, arith}
+use Rattle.std.proofs.Common.{◌≡◌, ℕ, ◌+◌, ◌≤◌, true, false, eqb, List, ◌∷◌, ◌++◌, length, take, drop, None, Ok, Err, IsUtf8, sym, refl, ap, ◌∙◌, arith}
 use lib.Utf8.{encode, encodes}
 use Rattle.std.proofs.lemmas.List.{length-append, length-take, drop-drop, append_assoc, take_at, drop_at}
 use Rattle.stream.specs.Told.{Ending}
@@ -7,8 +7,19 @@ use Rattle.escape.specs.declared.fault.DecodeFault.{DecodeFault}
 use Rattle.utf8.specs.Utf8.{prefix}
 use Rattle.escape.specs.Characters.{closed}
 use Rattle.escape.specs.Escapes.{Unescaped}
-use Rattle.decode.specs.Decoding.{Refused, answer, answer_of, unescapes, decode, IsText}
+use Rattle.escape.specs.Meaning.{Tells}
+use Rattle.decode.specs.Decoding.{Refused, answer, answer_of, unescapes, decode, length_of, IsText}
 use Rattle.decode.proofs.Sizes.{decoded_few, decoded_utf8}
+
+-- of w, these many bytes are counted and m is still to come
+abbrev pub Counted : Unescaped → Unescaped → ℕ → Type 0
+Counted w m len = (len + length (encodes m.points) ≡ length (encodes w.points)) × (m.ending ≡ w.ending)
+
+-- where nothing is left and the text is finished, all is counted
+pub counted_length : (w m n : Unescaped) (len : ℕ) → Counted w m len → Tells m (Ok None) n → Ok len ≡ length_of w
+counted_length w m n len i t =
+    let all : length (encodes w.points) ≡ len = omega (arith, i.0, ap (λ l. length (encodes l)) t.0) in
+    ap Ok (sym all) ∙ sym (ap (λ x. length_of (record { points = w.points; ending = x })) (sym i.1 ∙ t.1))
 
 -- of the code points ws, those before ms are written to the front of ds, which is as old behind them
 pub record Written (ws ms old ds : List ℕ) (at : ℕ) : Type 0 where

@@ -2,7 +2,7 @@
 
 #![tactic(auto)]
 
-ghost use Rattle.std.specs.Prelude.{◌≡◌, ◌+◌, ◌≤◌, ◌++◌, length, take, drop, IfOk, OnOk, Some};
+ghost use Rattle.std.specs.Prelude.{◌≡◌, ◌+◌, ◌≤◌, ◌++◌, length, take, drop, IfOk, Some};
 ghost use Rattle.std.proofs.Math.Utf8.{encode, encodes};
 ghost use Rattle.decode.specs.Answers.{Decoded, error_text};
 ghost use Rattle.decode.specs.declared.DecodeError.TheVariants.{Fault as faulty, NoMemory as unallocated};

@@ -89,6 +89,7 @@ more_digit (x ∷ cs) ds c v e l h k d =
       λ n used. octal_more n v used x cs (ap is_octal i ∙ octal_test c l h) ∙ ap (λ t. octal_from n (v * 8 + (t - 48)) (suc used) cs) i ∙ ap (octal_from n (v * 8 + (c - 48)) (suc used)) (sym d) ∙ ap (λ k. octal_from n (v * 8 + (c - 48)) k ds) (sym (add-one used)),
       omega arith,
       d,
+      omega arith,
     )
 
 pub more_over : (cs ds : List Indexed) (c v : ℕ) → Some c ≡ ahead cs → 48 ≤ c → c ≤ 55 → 31 < v → MoreOctal None v cs ds
@@ -108,6 +109,7 @@ more_stop cs ds v o h d = (
   λ n used. octal_stop (suc n) v used cs h o ∙ sym (octal_stop n v used cs h o) ∙ ap (octal_from n v used) (sym d) ∙ ap (λ k. octal_from n v k ds) (sym (add-zero used)),
   h,
   d,
+  omega arith,
 )
 
 no_octal : (cs : List Indexed) (c : ℕ) → Some c ≡ ahead cs → is_octal c ≡ false → NoOctal cs

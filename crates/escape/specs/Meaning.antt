@@ -54,7 +54,7 @@ Took (Some v) g cs ds = (n : ℕ) × (g ≡ Gives v n) × (ds ≡ drop n cs)
 -- at most one more octal digit behind those of a value, read off cs, which leaves ds: the value with k digits more, or it is too large
 abbrev pub MoreOctal : Option ℕ → ℕ → List Indexed → List Indexed → Type 0
 MoreOctal None v cs ds = (n used : ℕ) → octal_from (suc n) v used cs ≡ Bad
-MoreOctal (Some w) v cs ds = (k : ℕ) × ((n used : ℕ) → octal_from (suc n) v used cs ≡ octal_from n w (used + k) ds) × (w < 256) × (ds ≡ drop k cs)
+MoreOctal (Some w) v cs ds = (k : ℕ) × ((n used : ℕ) → octal_from (suc n) v used cs ≡ octal_from n w (used + k) ds) × (w < 256) × (ds ≡ drop k cs) × (k ≤ 1)
 
 -- a hexadecimal digit taken off cs, which leaves ds: one more digit of any number
 abbrev pub HexDigit : Option ℕ → List Indexed → List Indexed → Type 0

@@ -56,7 +56,7 @@ impl From<BadEscape> for DecodeFault {
 }
 
 impl DecodeFault {
-    // The refusal's number.
+    // The refusal's number, by which C and the recorded answers know it.
     pub fn number(self) -> u32
         ensures { result ≡ number_of self }
     {

@@ -79,7 +79,7 @@ impl<'t> Source<'t> {
         Some(high * 16 + low)
     }
 
-    // Takes four hexadecimal digits.
+    // Takes four hexadecimal digits: two reads of two. A loop over the digits needs an invariant, and is no plainer.
     fn four_digits(&mut self) -> Option<u32>
         ensures value { result ≡ hex_from 4 0 (coming self.old) }
         ensures rest { elim result [ None ↦ Unit {0} | Some v ↦ (v < 65536) × (coming self.new ≡ drop 4 (coming self.old)) ] }

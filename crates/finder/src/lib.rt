@@ -4,7 +4,7 @@
 
 ghost use Rattle.std.specs.Prelude.{◌≡◌, List, [], Some};
 ghost use Rattle.finder.specs.Names.{marker_name};
-ghost use Rattle.finder.specs.Finding.{Opening, found_from, Finds, Inside};
+ghost use Rattle.finder.specs.Finding.{Opening, is_line_end, found_from, Finds, Inside};
 
 use std::fmt;
 
@@ -19,6 +19,15 @@ pub enum StartMarker {
 }
 
 impl StartMarker {
+    // The five markers, in the order in which openings are compared and entered.
+    pub const ALL: [StartMarker; 5] = [
+        StartMarker::Variable,
+        StartMarker::Block,
+        StartMarker::Comment,
+        StartMarker::LineStatement,
+        StartMarker::LineComment,
+    ];
+
     // The marker's name.
     pub fn name(self) -> &'static str
         ensures { result.now ≡ marker_name self }
@@ -40,6 +49,13 @@ impl fmt::Display for StartMarker {
     fn fmt<W: fmt::Write>(&self, f: &mut fmt::Formatter<W>) -> fmt::Result {
         f.write_str(self.name())
     }
+}
+
+// Whether `b` is CR or LF.
+pub fn is_line_end(b: u8) -> bool
+    ensures { result ≡ is_line_end b }
+{
+    matches!(b, b'\r' | b'\n')
 }
 
 // A finder means the openings that it looks for.

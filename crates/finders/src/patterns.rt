@@ -13,15 +13,6 @@ use super::spot::Spot;
 use finder::StartMarker;
 use syntax::{Delimiter, DelimiterName, Settings};
 
-// The order in which openings are entered.
-const MARKERS: [StartMarker; 5] = [
-    StartMarker::Variable,
-    StartMarker::Block,
-    StartMarker::Comment,
-    StartMarker::LineStatement,
-    StartMarker::LineComment,
-];
-
 // At most five patterns, the longest first.
 // The array has a count beside it: matchers are `Copy` and use no heap, and the library's `ArrayVec` is not `Copy`.
 #[derive(Clone, Copy, Debug)]
@@ -99,8 +90,8 @@ impl Patterns {
             marker: StartMarker::Variable,
             delimiter: *settings.entry(DelimiterName::VariableStart),
         });
-        for marker in &MARKERS {
-            patterns.enter_opening(*marker, settings.entry(DelimiterName::from(*marker)));
+        for marker in StartMarker::ALL {
+            patterns.enter_opening(marker, settings.entry(DelimiterName::from(marker)));
         }
         patterns
     }

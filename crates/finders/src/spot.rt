@@ -1,15 +1,9 @@
-// Places of a source.
+// Places that a finder follows in a source.
 ghost use Rattle.std.specs.Prelude.{◌≡◌, ℕ, ◌+◌, ◌≤◌, List, ◌++◌, reverse, length, take};
-ghost use Rattle.finder.specs.Finding.{is_line_end, is_space_or_tab, blank_line};
+ghost use Rattle.finder.specs.Finding.{is_space_or_tab, blank_line};
 
 use byte_search::{after, until};
-
-// CR or LF.
-fn is_line_end(b: u8) -> bool
-    ensures { result ≡ is_line_end b }
-{
-    b == b'\r' || b == b'\n'
-}
+use finder::is_line_end;
 
 // A space or a tab.
 fn is_space_or_tab(b: u8) -> bool
@@ -29,7 +23,7 @@ fn is_blank(bytes: &[u8], was: bool) -> bool
 }
 
 // A place of a source, and what is known of its line.
-#[derive(Clone, Copy)]
+#[derive(Clone, Copy, Debug)]
 pub(crate) struct Spot<'s> {
     pub(crate) source: &'s [u8],
     pub(crate) at: usize,
@@ -72,7 +66,7 @@ impl<'s> Spot<'s> {
         self.at += n;
     }
 
-    // Whether only spaces and tabs lie between the place and the CR, LF or start before it. Each byte is looked at once.
+    // Whether only spaces and tabs lie between the place and the CR, LF or start before it. Each byte is looked at once at most.
     pub(crate) fn is_line_start(&mut self) -> bool
         ensures value { result ≡ blank_line (behind self.old) }
         ensures stays { Stays self.old self.new }

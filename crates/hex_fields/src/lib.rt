@@ -12,7 +12,7 @@ use std::error::Error;
 use std::fmt;
 
 // Bytes to be shown, two digits each and a space between two.
-#[derive(Clone, Copy)]
+#[derive(Clone, Copy, Debug)]
 pub struct Hex<'a>(pub &'a [u8]);
 
 impl fmt::Display for Hex<'_> {

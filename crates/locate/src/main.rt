@@ -15,6 +15,11 @@ use syntax::{DelimiterName, Draft, Settings, SyntaxFault};
 // The default delimiters as fields; these have a finder of their own.
 const DEFAULTS: &str = "7b25 257d 7b7b 7d7d 7b23 237d - - ";
 
+// The first field of a line, and what follows it.
+fn split(line: &str) -> anyhow::Result<(&str, &str)> {
+    line.split_once(' ').context("a field is missing")
+}
+
 // Prints what was found.
 fn show(rt: &impl Print, found: Option<(usize, StartMarker, usize)>) -> io::Result<()> {
     match found {
@@ -50,21 +55,19 @@ fn seek<F: Finder + Drop>(
 // Answers one line.
 fn answer(rt: &(impl AllocGlobal + Print), line: &str) -> anyhow::Result<()> {
     let mut draft = Draft::new();
-    let mut fields = line.splitn(10, ' ');
+    let mut rest = line;
     for which in DelimiterName::ALL {
-        let text = fields.next().context("a field is missing")?;
+        let (text, more) = split(rest)?;
         let bytes = field(rt.alloc(), text.as_bytes())?;
         if let Err(fault) = draft.set_delimiter(which, bytes.as_slice()) {
             show_refusal(rt, fault)?;
             return Ok(());
         }
+        rest = more;
     }
-    let text = fields.next().context("a field is missing")?;
+    let (text, number) = split(rest)?;
     let source = field(rt.alloc(), text.as_bytes())?;
-    let offset = fields
-        .next()
-        .context("a field is missing")?
-        .parse::<usize>()?;
+    let offset = number.parse::<usize>()?;
     let default = line.starts_with(DEFAULTS).then_some(DefaultFinder);
     match draft.build() {
         Ok(settings) => seek(rt, &settings, default, source.as_slice(), offset)?,

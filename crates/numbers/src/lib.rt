@@ -99,7 +99,8 @@ fn eat_decimal(digits: &[u8], after_dot: bool, state: LexerState) -> Verdict
     scanner.eat(0, digits, state)
 }
 
-// The number at the front, right behind a dot or not.
+// The number at the front, right behind a dot or not. One call behind a `match` that chooses base and digits was tried: that the piece lies within did not
+// follow there.
 #[tactic(auto, unfolding(rules::specs::Numbers::number))]
 pub fn eat_number(rest: &[u8], after_dot: bool, state: LexerState) -> Verdict
     ensures value { result ≡ number_at after_dot state rest.now }

@@ -61,7 +61,7 @@ impl From<DecodeFault> for FaultKind {
 }
 
 impl FaultKind {
-    // The fault's number.
+    // The fault's number, by which C and the recorded answers know it.
     pub fn number(self) -> u32
         ensures { result ≡ number_of self }
     {

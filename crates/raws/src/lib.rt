@@ -26,7 +26,7 @@ fn basic_end(rest: &[u8], at: usize, block_end: &[u8]) -> Option<(usize, Whitesp
     match tail {
         [] => None,
         [sign @ (b'-' | b'+'), behind @ ..] if starts_with_bytes(behind, block_end) => {
-            Some((at + 1 + block_end.len(), Whitespace::from(*sign)))
+            Some((at + 1 + block_end.len(), Whitespace::from_byte(*sign)))
         }
         _ if starts_with_bytes(tail, block_end) => {
             Some((at + block_end.len(), Whitespace::Default))

@@ -23,9 +23,6 @@ chop_not b (x ∷ (y ∷ ys)) h =
     let n : length (x ∷ (y ∷ ys)) - 1 ≡ suc (length (y ∷ ys) - 1) = omega arith in
     ap (λ l. x ∷ l) (chop_not b (y ∷ ys) (λ p e. h (omega arith) (ap (λ k. get_or (x ∷ (y ∷ ys)) k 0) n ∙ e)))
 
-pub all_kept : (b : ℕ) (xs : List ℕ) → chop b xs ≡ xs → take (length xs) xs ≡ chop b xs
-all_kept b xs e = take_all (length xs) xs (omega arith) ∙ sym e
-
 pub took_length : (xs ys : List ℕ) (r : ℕ) → r ≤ length xs → take r xs ≡ ys → r ≡ length ys
 took_length xs ys r h e = let l = length-take r xs in let m = ap length e in omega arith
 

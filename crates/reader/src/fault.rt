@@ -25,7 +25,7 @@ impl From<NotUtf8> for OpenFault {
 }
 
 impl OpenFault {
-    // The refusal's number.
+    // The refusal's number, by which C and the recorded answers know it.
     pub fn number(self) -> u32
         ensures { result ≡ number_of self }
     {

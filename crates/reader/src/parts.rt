@@ -14,9 +14,9 @@ fn one_on(place: Place) -> Place
     ensures { result ≡ capped (one_on place) }
 {
     Place {
-        line: place.line,
         column: place.column.saturating_add(1),
         offset: place.offset.saturating_add(1),
+        ..place
     }
 }
 

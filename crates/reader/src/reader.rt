@@ -4,7 +4,7 @@ ghost use Rattle.rules.specs.Reading.{meaning, Unread};
 ghost use Rattle.rules.specs.Shapes.{Fits};
 ghost use Rattle.rules.specs.Texts.{verdict as ruled, AllReal};
 ghost use Rattle.syntax.specs.Openings.{openings_of};
-ghost use Rattle.reader.specs.Views.{view_of, config, told_as, tell, items_of, ending_of, left_of, Lawful};
+ghost use Rattle.reader.specs.Views.{view_of, config, tell, items_of, ending_of, left_of, Lawful};
 
 use super::reading::Reading;
 use super::verdicts::verdict_at;

@@ -30,7 +30,7 @@ pub struct Reading<'t> {
     pub(crate) pending: Pending,
     // brackets that were opened, less those that were closed
     pub(crate) balance: i64,
-    // whether the cut was told
+    // whether the cut was told, which the rules' state says; the code goes by how many are left
     pub(crate) cut_told: bool,
     // the ending, once it was told
     pub(crate) told: Option<Ending<ReadFault>>,
@@ -93,7 +93,8 @@ impl<'t> Reading<'t> {
         }
     }
 
-    // Takes the cut off, behind which nothing is left.
+    // Takes the cut off, behind which nothing is left. It moves as a step does, but what is left moves too, and no method can do a part of either:
+    // the invariant ties the offset to what waits.
     fn take_cut(&mut self) -> Piece
         requires { self.old.offset ≡ self.old.left }
         ensures piece { result ≡ placed (place_at self.old.template.now self.old.offset) (cut_part self.old.template.now self.old.left) }

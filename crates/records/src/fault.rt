@@ -15,7 +15,7 @@ pub enum RecordFault {
 }
 
 impl RecordFault {
-    // The fault's number.
+    // The fault's number, by which C and the recorded answers know it.
     pub fn number(self) -> u32
         ensures { result ≡ number_of self }
     {

@@ -10,7 +10,7 @@ use ranged::first_too_early;
 use stream::Stream;
 
 // Recorded pieces that are still to be told.
-#[derive(Clone, Copy)]
+#[derive(Clone, Copy, Debug)]
 pub struct Recorded<'p> {
     rest: &'p [Piece],
 }

@@ -12,30 +12,26 @@ pub enum Whitespace {
     Remove,
 }
 
-// What a byte says as a sign.
-impl From<u8> for Whitespace {
-    ghost use Rattle.rules.specs.Bytes.{sign_of};
+impl Whitespace {
+    ghost use Rattle.rules.specs.Bytes.{sign_of, sign_at, sign_len};
 
-    ghost from_gives = { λ b ws. ws ≡ sign_of b };
-
-    fn from(b: u8) -> Whitespace {
+    // What a byte says as a sign. As in the original a name and no `From`, since most bytes say nothing.
+    pub fn from_byte(b: u8) -> Whitespace
+        ensures { result ≡ sign_of b }
+    {
         match b {
             b'-' => Whitespace::Remove,
             b'+' => Whitespace::Preserve,
             _ => Whitespace::Default,
         }
     }
-}
-
-impl Whitespace {
-    ghost use Rattle.rules.specs.Bytes.{sign_at, sign_len};
 
     // The sign at the front, if there is one.
     pub fn at_front(rest: &[u8]) -> Whitespace
         ensures { result ≡ sign_at rest.now }
     {
         match rest {
-            [b, ..] => Whitespace::from(*b),
+            [b, ..] => Whitespace::from_byte(*b),
             [] => Whitespace::Default,
         }
     }

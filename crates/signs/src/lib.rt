@@ -27,12 +27,7 @@ pub fn handle_tail_ws(settings: &Settings, ws: Whitespace, rest: &[u8]) -> Pendi
     match ws {
         Whitespace::Remove => Pending::Trim,
         Whitespace::Preserve => Pending::Nothing,
-        Whitespace::Default => {
-            if settings.whitespace().trim_blocks {
-                skip(line_end(rest))
-            } else {
-                Pending::Nothing
-            }
-        }
+        Whitespace::Default if settings.whitespace().trim_blocks => skip(line_end(rest)),
+        Whitespace::Default => Pending::Nothing,
     }
 }

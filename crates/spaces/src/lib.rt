@@ -2,7 +2,7 @@
 
 #![tactic(auto)]
 
-ghost use Rattle.std.specs.Prelude.{◌≡◌, ℕ, ◌≤◌, Bool, true, take, None, Decides};
+ghost use Rattle.std.specs.Prelude.{◌≡◌, ℕ, Bool, take, None, Decides};
 ghost use Rattle.std.specs.Char.{is_whitespace};
 ghost use Rattle.ranged.specs.Ranges.{first_too_early, Rising};
 ghost use Rattle.spaces.specs.Spaces.{white_space, begins, ends, in_ranges, in_line, Held, holds as range_holds};
@@ -216,7 +216,7 @@ pub fn blank_run(s: &[u8]) -> usize
         .unwrap_or(s.len())
 }
 
-// How many bytes CR LF, LF or CR at the front has, 0 where none of them stands there.
+// How many bytes CR LF, LF or CR at the front has: a length that callers add, 0 where none of them stands there.
 pub fn line_end(s: &[u8]) -> usize
     ensures value { result ≡ line_end s.now }
     ensures told { LineEnd s.now result }

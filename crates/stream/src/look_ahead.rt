@@ -1,5 +1,5 @@
 // One look ahead, over streams of every item.
-ghost use Rattle.std.specs.Prelude.{◌≡◌, ℕ, ◌+◌, ◌≤◌, List, ◌++◌, length};
+ghost use Rattle.std.specs.Prelude.{◌≡◌, ◌+◌, ◌≤◌, List, ◌++◌, length};
 ghost use Rattle.std.specs.Option.{option_to_list};
 ghost use Rattle.finder.specs.Finding.{Opening};
 ghost use Rattle.stream.specs.Told.{Look};

@@ -2,8 +2,7 @@
 
 #![tactic(auto)]
 
-ghost use Rattle.std.specs.Prelude.{◌≡◌, ◌+◌, ◌≤◌, [], length, take, drop, Decides};
-ghost use Rattle.finder.specs.Finding.{is_line_end};
+ghost use Rattle.std.specs.Prelude.{◌≡◌, ◌+◌, ◌≤◌, [], length, take, Decides};
 ghost use Rattle.spaces.specs.Runs.{white_run, all_pass, kept, Longest};
 ghost use Rattle.spaces.specs.Spaces.{white_space, in_ranges, in_line};
 ghost use Rattle.rules.specs.Bytes.{behind_at, line_before};
@@ -13,17 +12,10 @@ ghost use Rattle.rules.specs.Cursors.{config_at, behind, ahead};
 ghost use Rattle.strips.specs.Lines.{WhiteLine, Trims, Left, left_before};
 
 use byte_search::until;
-use finder::StartMarker;
+use finder::{StartMarker, is_line_end};
 use rules::{Cursor, Whitespace};
 use spaces::{CharSet, InlineWhite, White, run_backward, run_forward, white_space};
 use syntax::Settings;
-
-// Whether `b` is CR or LF.
-fn is_nl(b: u8) -> bool
-    ensures { result ≡ is_line_end b }
-{
-    matches!(b, b'\r' | b'\n')
-}
 
 // White space.
 fn white() -> White<'static>
@@ -53,7 +45,7 @@ fn trim_end_matches<C: CharSet>(text: &[u8], set: &C) -> usize
 }
 
 // How many bytes of a text are left when the white space at its end is taken off.
-// This and the next name the two sets that the crates above use: what both do is said once, above.
+// This and the next are the two sets in use, told without the ranges behind them: what both do is said once, above.
 pub fn trim_end(text: &[u8]) -> usize
     ensures value { result ≡ kept (in_ranges white_space) text.now }
     ensures within { result ≤ length text.now }
@@ -88,7 +80,7 @@ pub fn line_is_white(source: &[u8], at: usize) -> bool
     let front = until(source, at);
     match until(front, trim_end_inline(front)) {
         [] => true,
-        [.., b] => is_nl(*b),
+        [.., b] => is_line_end(*b),
     }
 }
 

@@ -1,7 +1,8 @@
 -- The numbers and places of refusals.
-use Rattle.std.specs.Prelude.{ℕ, List, ◌++◌, Some, None, Ok, Err, codes, decimal, Option, Result}
+use Rattle.std.specs.Prelude.{ℕ, List, ◌++◌, Some, None, Ok, Err, codes, Option, Result}
 use Rattle.syntax.specs.declared.name.DelimiterName.{DelimiterName}
 use Rattle.syntax.specs.Names.{name_of}
+use Rattle.utf8.specs.Utf8.{not_utf8_text}
 use Rattle.syntax.specs.declared.fault.SyntaxFault.{SyntaxFault}
 use Rattle.syntax.specs.declared.fault.SyntaxFault.TheVariants.{TooLong, NotUtf8, Empty, Equal}
 
@@ -26,6 +27,6 @@ tells (Err f) = Err (told f)
 -- a refusal as it is shown
 abbrev pub fault_text : SyntaxFault → List ℕ
 fault_text (TooLong n) = name_of n ++ codes " has over 16 bytes"
-fault_text (NotUtf8 n f) = name_of n ++ codes " is not UTF-8 from byte " ++ decimal f.byte ++ codes " on"
+fault_text (NotUtf8 n f) = name_of n ++ codes " is " ++ not_utf8_text f
 fault_text (Empty n) = name_of n ++ codes " is empty"
 fault_text (Equal n) = name_of n ++ codes " equals an earlier opening"

@@ -17,7 +17,7 @@ pub enum SyntaxFault {
 }
 
 impl SyntaxFault {
-    // The refusal's number.
+    // The refusal's number, by which C and the recorded answers know it.
     pub fn number(self) -> u32
         ensures { result ≡ (told self).number }
     {
@@ -59,9 +59,7 @@ impl fmt::Display for SyntaxFault {
     fn fmt<W: fmt::Write>(&self, f: &mut fmt::Formatter<W>) -> fmt::Result {
         match self {
             SyntaxFault::TooLong(name) => write!(f, "{name} has over 16 bytes"),
-            SyntaxFault::NotUtf8(name, fault) => {
-                write!(f, "{name} is not UTF-8 from byte {} on", fault.byte)
-            }
+            SyntaxFault::NotUtf8(name, fault) => write!(f, "{name} is {fault}"),
             SyntaxFault::Empty(name) => write!(f, "{name} is empty"),
             SyntaxFault::Equal(name) => write!(f, "{name} equals an earlier opening"),
         }

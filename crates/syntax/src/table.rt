@@ -8,7 +8,7 @@ ghost use Rattle.syntax.specs.Names.{required_names, opening_names};
 use super::delimiter::Delimiter;
 use super::name::DelimiterName;
 
-// The delimiters that open, in the order in which they are compared.
+// The delimiters that open, in the order in which they are compared: that of `StartMarker::ALL`, as names, since the earlier ones are lent as a slice.
 const OPENINGS: [DelimiterName; 5] = [
     DelimiterName::VariableStart,
     DelimiterName::BlockStart,

@@ -1,2 +1,3 @@
 mod Literals
 mod Dots
+mod Operated

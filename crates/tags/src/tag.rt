@@ -10,7 +10,7 @@ use rules::{BlockSentinel, Cursor, LexerState, Pending, Step, Verdict};
 use spaces::blank_run;
 
 // A place inside a tag, with bytes to come: what the tag was opened by, and the balance of its brackets, which one more keeps in an i64.
-#[derive(Clone, Copy)]
+#[derive(Clone, Copy, Debug)]
 pub struct Tag<'s> {
     pub here: Cursor<'s>,
     pub sentinel: BlockSentinel,

@@ -7,7 +7,6 @@ mod start;
 
 ghost use Rattle.std.specs.Prelude.{◌≡◌, ◌+◌, ◌≤◌, length, Some};
 ghost use Rattle.rules.specs.Bytes.{sign_len};
-ghost use Rattle.rules.specs.Config.{config_of};
 ghost use Rattle.rules.specs.Cursors.{config_at, behind, ahead};
 ghost use Rattle.rules.specs.Shapes.{held};
 ghost use Rattle.rules.specs.State.{plain};

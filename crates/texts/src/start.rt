@@ -23,7 +23,7 @@ fn closing_sign(body: &[u8], end: usize) -> Whitespace
 {
     match until(body, end) {
         [] => Whitespace::Default,
-        [.., b] => Whitespace::from(*b),
+        [.., b] => Whitespace::from_byte(*b),
     }
 }
 
@@ -36,7 +36,7 @@ fn line_len(rest: &[u8]) -> usize
 }
 
 // An opening that stands in front, which has so many bytes with its sign.
-#[derive(Clone, Copy)]
+#[derive(Clone, Copy, Debug)]
 pub struct Start<'s> {
     pub rest: &'s [u8],
     pub len: usize,

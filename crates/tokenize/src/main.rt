@@ -19,6 +19,11 @@ use syntax::{DelimiterName, Draft, Settings, SyntaxFault, WhitespaceConfig};
 // The default delimiters as fields; these have a finder of their own.
 const DEFAULTS: &str = "7b25 257d 7b7b 7d7d 7b23 237d - - ";
 
+// The first field of a line, and what follows it.
+fn split(line: &str) -> anyhow::Result<(&str, &str)> {
+    line.split_once(' ').context("a field is missing")
+}
+
 // The flags that three letters set.
 fn flags(text: &str) -> WhitespaceConfig {
     WhitespaceConfig {
@@ -28,7 +33,7 @@ fn flags(text: &str) -> WhitespaceConfig {
     }
 }
 
-// Prints why there are no settings. The program `locate` reads delimiters and tells refusals in the same few lines: a crate for both would be longer.
+// Prints why there are no settings.
 fn show_refusal(rt: &impl Print, fault: SyntaxFault) -> io::Result<()> {
     let (number, which) = (fault.number(), fault.which());
     match fault.byte() {
@@ -81,7 +86,7 @@ fn show<F: Finder>(rt: &impl Print, mut reader: Reader, finder: &F) -> io::Resul
     }
 }
 
-// Opens a template, or where the field says so an expression.
+// Opens a template, or an expression where the line's field says so.
 fn open<'t>(settings: &Settings, mode: &str, template: &'t [u8]) -> Result<Reader<'t>, OpenFault> {
     let mut reader = Reader::new(settings);
     match mode {
@@ -91,43 +96,30 @@ fn open<'t>(settings: &Settings, mode: &str, template: &'t [u8]) -> Result<Reade
     Ok(reader)
 }
 
-// Reads what was opened, with this finder.
-fn read<F: Finder>(
-    rt: &impl Print,
-    opened: Result<Reader, OpenFault>,
-    finder: &F,
-) -> io::Result<()> {
-    match opened {
-        Ok(reader) => show(rt, reader, finder),
-        Err(fault) => show_unopened(rt, fault),
-    }
-}
-
-// Answers one line.
+// Answers one line. `locate` reads its delimiters and tells their refusals in the same lines: shared, they would need a crate, contracts and edits, which are
+// longer than they are.
 fn answer(rt: &(impl AllocGlobal + Print), line: &str) -> anyhow::Result<()> {
     let mut draft = Draft::new();
-    let mut fields = line.splitn(11, ' ');
+    let mut rest = line;
     for which in DelimiterName::ALL {
-        let text = fields.next().context("a field is missing")?;
+        let (text, more) = split(rest)?;
         let bytes = field(rt.alloc(), text.as_bytes())?;
         if let Err(fault) = draft.set_delimiter(which, bytes.as_slice()) {
             show_refusal(rt, fault)?;
             return Ok(());
         }
+        rest = more;
     }
-    draft.set_whitespace(flags(fields.next().context("a field is missing")?));
-    let mode = fields.next().context("a field is missing")?;
-    let text = fields.next().context("a field is missing")?;
+    let (letters, more) = split(rest)?;
+    draft.set_whitespace(flags(letters));
+    let (mode, text) = split(more)?;
     let template = field(rt.alloc(), text.as_bytes())?;
     match draft.build() {
-        Ok(settings) => {
-            let opened = open(&settings, mode, template.as_slice());
-            if line.starts_with(DEFAULTS) {
-                read(rt, opened, &DefaultFinder)?;
-            } else {
-                read(rt, opened, &StartMarkerMatcher::new(&settings))?;
-            }
-        }
+        Ok(settings) => match open(&settings, mode, template.as_slice()) {
+            Ok(reader) if line.starts_with(DEFAULTS) => show(rt, reader, &DefaultFinder)?,
+            Ok(reader) => show(rt, reader, &StartMarkerMatcher::new(&settings))?,
+            Err(fault) => show_unopened(rt, fault)?,
+        },
         Err(fault) => show_refusal(rt, fault)?,
     }
     Ok(())

@@ -2,7 +2,7 @@
 
 #![tactic(auto)]
 
-ghost use Rattle.std.specs.Prelude.{◌≡◌, ℕ, ◌+◌, ◌<◌, ◌≤◌, true, length, drop, Some, Decides, slice_index};
+ghost use Rattle.std.specs.Prelude.{◌≡◌, ◌+◌, ◌<◌, ◌≤◌, true, drop, Some, Decides};
 ghost use Rattle.std.proofs.Math.Utf8.{scalar};
 ghost use Rattle.utf8.specs.Utf8.{char_at, checked, Encoded, Agrees, Second, not_utf8_text};
 

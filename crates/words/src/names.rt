@@ -25,7 +25,7 @@ fn part_run(rest: &[u8]) -> usize
     rest.iter().take_while(|b| is_part(**b)).count()
 }
 
-// How many bytes the identifier at the front has, 0 where none begins there.
+// How many bytes the identifier at the front has; as in the original 0, the length of none, where none begins there.
 pub fn lex_identifier(rest: &[u8]) -> usize
     ensures value { result ≡ ident_len rest.now }
     ensures longest { leads_name (slice_index rest.now 0) ≡ true → LongestRun is_name_part rest.now result }

@@ -8,5 +8,5 @@ returns-in-empty c =
 
 pub returns-in-len1-up : goal.returns-in-len1-up
 returns-in-len1-up c =
-    let t = told_last c.args.source.now _ _ c.args.at _ c.until-front.ensures.value c.trim_end_inline.ensures.value c.trim_end_inline.ensures.within c.until.ensures.value _ c.in-len1-up.len_at_least c.is_nl.ensures in
+    let t = told_last c.args.source.now _ _ c.args.at _ c.until-front.ensures.value c.trim_end_inline.ensures.value c.trim_end_inline.ensures.within c.until.ensures.value _ c.in-len1-up.len_at_least c.is_line_end.ensures in
     record { value = t.0; line = t.1 }
