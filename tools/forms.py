@@ -74,6 +74,26 @@ def together():
     return out
 
 
+def enums():
+    return sorted({m.group(1) for f in sources() for _, l in code(f) for m in [re.match(r'\s*(?:pub(?:\([a-z]+\))? )?enum (\w+)', l)] if m})
+
+
+def conversions():
+    """Functions with one parameter that is an enum of ours, and another enum of ours as their result."""
+    es = '|'.join(enums())
+    return places(r'fn \w+\((?:self|\w+: (?:Ending<\w+>|(?:' + es + r')\b)[^,)]*)\) -> (?:' + es + r')\b')
+
+
+def zeros(f):
+    out, last = [], ''
+    for n, l in enumerate(open(f, encoding='utf-8'), 1):
+        if l.strip().startswith('//'):
+            last = l.strip()
+        elif re.match(r'\s*(pub )?fn ', l) and re.search(r'\b0\b.*where no', last):
+            out.append(f'{f}:{n}: {l.strip()}')
+    return out
+
+
 def twins():
     if not shutil.which('duplicates'):
         return ['(the command duplicates is not here)']
@@ -93,17 +113,20 @@ def proof_files():
 print('1  own enums, flags with a value, numbers')
 show('enums (each is read: which have the shape of Option or Result?)', places(r'^\s*(pub(\([a-z]+\))? )?enum '))
 show('functions that tell a number for a kind or a refusal', places(r'fn number\(|-> u32$'))
-show('fields and parameters that are a bool', places(r'^\s*(pub(\([a-z]+\))? )?\w+: bool,'))
+show('fields that are a bool', places(r'^\s*(pub(\([a-z]+\))? )?\w+: bool,'))
+show('functions with a parameter that is a bool', [f'{k}: {n}({", ".join(ps)})' for k, n, ps in functions() if any(p.endswith(': bool') for p in ps)])
+show('functions whose comment says that 0 stands for none', [p for f in sources() for p in zeros(f)])
 print('2  twins')
 show('pairs of places that share five or more lines', twins())
 print('3  loops')
 show('for over a range of indices', places(r'for \w+ in [^/]*\.\.'))
 show('while and loop', places(r'^\s*(while |loop \{)'))
-show('an index or a count moved by hand', places(r'^\s*[\w.]+ (\+|-)= |=> \w+ \+= '))
+show('an index or a count moved by hand', places(r'\b[\w.]+ (\+|-)= |\b([\w.]+) = (\2|at|offset)( [+-] |\.saturating_add)'))
 print('4  equality, order, copying, conversion, printing')
 show('types that derive Clone and Copy and no more', places(r'derive\(Clone, Copy\)'))
 show('impls of Display, Error, From and TryFrom', places(r'^impl.* (fmt::Display|Error|From<.*>|TryFrom<.*>) for'))
-show('functions that turn one enum into another by a match', places(r'fn (opener|from_byte|passed|of_kind|same)\('))
+show('functions that take an enum of ours and give another', conversions())
+show('functions that give an enum of ours for a byte', [x for x in places(r'fn \w+\(\w+: u8\) -> ') if re.search(r'-> (Option<)?(' + '|'.join(enums()) + r')\b', x)])
 print('5  facts and parameters')
 show('facts required twice or more', repeated('requires', 2))
 show('facts ensured three times or more', repeated('ensures', 3))
@@ -112,7 +135,8 @@ print('6  buffers, parallel arrays, indices')
 show('a length or an index beside a buffer', places(r'^\s*(pub(\([a-z]+\))? )?(len|count|told): usize,'))
 show('arrays in fields', places(r'^\s*(pub(\([a-z]+\))? )?\w+: \[.*; ?\d+\],'))
 print('7  switches on a step')
-show('a bool or a text that picks a step', places(r'^\s*(default: bool|mode: &str),'))
+show('a flag, a mode or a kind as a text that picks a step', places(r'\b(default: bool|mode: &str|kind: u\d+|which: u\d+)'))
+show('tables of functions, boxed closures, dyn', places(r'\bdyn |Box<|\[fn\(|: fn\('))
 print('8  proofs')
 n = sum(len(open(f, encoding='utf-8').read().split('\n')) - 1 for f in proof_files())
 a = sum(len(re.findall(r'^(?:abbrev )?pub [\w-]+ : goal\.', open(f, encoding='utf-8').read(), re.M)) for f in proof_files())
