@@ -2,7 +2,7 @@
 
 #![tactic(auto)]
 
-ghost use Rattle.std.specs.Prelude.{◌≡◌, ℕ, ◌+◌, ◌-◌, ◌<◌, ◌≤◌, min, List, [], ◌∷◌, ◌++◌, length, take, drop, Some, None, Decides};
+ghost use Rattle.std.specs.Prelude.{◌≡◌, ℕ, ◌+◌, ◌-◌, ◌<◌, ◌≤◌, min, List, [], ◌∷◌, ◌++◌, length, take, drop, Decides, IfSome};
 ghost use Rattle.byte_search.specs.Search.{stands_at, first_in, distance_to, First, Holds, HoldsAny, Stands};
 
 use memchr::memmem;
@@ -55,7 +55,7 @@ fn clear_chunks(haystack: &[u8], needles: &[u8]) -> usize
 fn position_any(haystack: &[u8], needles: &[u8]) -> Option<usize>
     ensures value { result ≡ first_in needles.now haystack.now }
     ensures first { First (HoldsAny needles.now haystack.now) result }
-    ensures within { elim result [ None ↦ Unit {0} | Some d ↦ d < length haystack.now ] }
+    ensures within { IfSome result (λ d. d < length haystack.now) }
 {
     let clear = clear_chunks(haystack, needles);
     let behind = after(haystack, clear)
@@ -64,11 +64,11 @@ fn position_any(haystack: &[u8], needles: &[u8]) -> Option<usize>
     Some(clear + behind)
 }
 
-// The first place whose byte is one of `needles`.
+// The first place whose byte is one of `needles`: an array, as in the original, while the search takes a slice.
 pub fn memchr_any<const N: usize>(haystack: &[u8], needles: [u8; N]) -> Option<usize>
     ensures value { result ≡ first_in needles.entry haystack.now }
     ensures first { First (HoldsAny needles.entry haystack.now) result }
-    ensures within { elim result [ None ↦ Unit {0} | Some d ↦ d < length haystack.now ] }
+    ensures within { IfSome result (λ d. d < length haystack.now) }
 {
     position_any(haystack, &needles)
 }
@@ -77,7 +77,7 @@ pub fn memchr_any<const N: usize>(haystack: &[u8], needles: [u8; N]) -> Option<u
 pub fn memchr(haystack: &[u8], needle: u8) -> Option<usize>
     ensures value { result ≡ first_in (needle ∷ []) haystack.now }
     ensures first { First (Holds needle haystack.now) result }
-    ensures within { elim result [ None ↦ Unit {0} | Some d ↦ d < length haystack.now ] }
+    ensures within { IfSome result (λ d. d < length haystack.now) }
 {
     memchr::memchr(needle, haystack)
 }
@@ -86,7 +86,7 @@ pub fn memchr(haystack: &[u8], needle: u8) -> Option<usize>
 pub fn memstr(haystack: &[u8], needle: &[u8]) -> Option<usize>
     ensures value { result ≡ distance_to needle.now haystack.now }
     ensures first { First (Stands needle.now haystack.now) result }
-    ensures within { elim result [ None ↦ Unit {0} | Some d ↦ d + length needle.now ≤ length haystack.now ] }
+    ensures within { IfSome result (λ d. d + length needle.now ≤ length haystack.now) }
 {
     memmem::find(haystack, needle)
 }

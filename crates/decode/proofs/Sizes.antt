@@ -106,10 +106,6 @@ unfolding scaled
 half_fits high cs ds None h l e = tt
 half_fits high cs ds (Some v) h l e = low_fits high v ds h (l (hex_below 4 65536 v cs refl e).0) (is_low v) refl
 
-begins_some : (d : ℕ) (cs : List Indexed) → begins d cs ≡ true → 1 ≤ length cs
-begins_some d [] e = let z : ◌≡◌ {A = ℕ} 0 1 = cc in absurd (omega arith)
-begins_some d (c ∷ cs) e = omega arith
-
 partner_fits : (high : ℕ) (cs ds : List Indexed) → is_high high ≡ true → 5 + length cs ≤ length ds → (a b : Bool) → begins 92 cs ≡ a → begins 117 (drop 1 cs) ≡ b
     → Fits ds (elim a [ true ↦ elim b [ true ↦ low_half high (hex_from 4 0 (drop 2 cs)) | false ↦ Bad ] | false ↦ Bad ])
 partner_fits high cs ds h l true true e f = half_fits high (drop 2 cs) ds (hex_from 4 0 (drop 2 cs)) h (λ k. omega (arith, length-drop 2 cs, k)) refl

@@ -25,6 +25,7 @@ fn unescaped_len(text: &[u8]) -> Result<usize, DecodeFault>
     ensures within { IfOk result (λ n. n ≤ length text.now) }
 {
     let mut chars = Unescaper::new(text);
+    // a stream lends a finder to each call and may fail, so it is no iterator that could be summed
     let mut len = 0;
     while let Some(c) = chars.next(&NoFinder)? {
         len += c.len_utf8();

@@ -15,9 +15,6 @@ use Rattle.finders.specs.Order.{entered, entered_all, ordered}
 abbrev pub EntersFrom : Table → List StartMarker → ℕ → List Opening → Type 0
 EntersFrom t ms i placed = entered_all (openings_by t (drop i ms)) placed ≡ ordered (openings_by t ms)
 
-pub enters_none : (t : Table) (ms : List StartMarker) (placed : List Opening) → placed ≡ [] → EntersFrom t ms 0 placed
-enters_none t ms placed e = ap (entered_all (openings_by t ms)) e
-
 enter_one : (t : Table) (m : StartMarker) (ms : List StartMarker) (placed : List Opening) → entered_all (openings_by t (m ∷ ms)) placed ≡ entered_all (openings_by t ms) (elim (is_empty (t (opener m))) [ true ↦ placed | false ↦ entered (record { marker = m; bytes = t (opener m) }) placed ])
 unfolding entered_all openings_by
 enter_one t m ms placed = elim (is_empty (t (opener m))) as (λ b. entered_all (elim b [ true ↦ openings_by t ms | false ↦ record { marker = m; bytes = t (opener m) } ∷ openings_by t ms ]) placed ≡ entered_all (openings_by t ms) (elim b [ true ↦ placed | false ↦ entered (record { marker = m; bytes = t (opener m) }) placed ])) [ true ↦ refl | false ↦ refl ]

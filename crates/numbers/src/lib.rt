@@ -18,7 +18,7 @@ use pieces::{FaultKind, Kind};
 use rules::{Fault, LexerState, NumberState, Pending, Step, Verdict};
 pub use values::from_str_radix;
 
-// An integer: below 2^64 it has its value, and from 2^128 on it is bad.
+// An integer: below 2^64 it has its value, and from 2^128 on it is bad. Digits and base go beside each other here only, once they are cut off.
 fn integer(digits: &[u8], radix: u32) -> Result<(Kind, Option<u64>), FaultKind>
     ensures { (len : ℕ) (state : LexerState) → told_as len state result ≡ integer_of len state (value_of radix digits.now) }
 {

@@ -107,7 +107,8 @@ fn raw_from(settings: &Settings, ws: Whitespace, body: &[u8]) -> usize
     }
 }
 
-// The text of a raw block, whose body runs from here to its closing tag.
+// The text of a raw block, whose body runs from here to its closing tag. It says that it lies in the bytes ahead, since its callers' callers do not prove it
+// from the value.
 #[tactic(auto, using(crate::proofs::Bodies::raw_left))]
 fn raw_text(here: &Cursor, ws: Whitespace, distance: usize, tag: EndRaw) -> Step
     requires { distance + tag.len ≤ length (ahead here.now) }

@@ -36,7 +36,7 @@ pub enum Token<'t> {
     Cut(&'t [u8]),
 }
 
-// The token of a kind with these bytes and this value.
+// The token of a kind with these bytes and this value; no `From`, since it takes all three.
 fn of_kind(kind: Kind, text: &[u8], value: Option<u64>) -> Token<'_>
     ensures { shown result ≡ token_of kind text.now value }
 {

@@ -1,4 +1,5 @@
 pub mod Lengths
+pub mod Runs
 pub mod Inside
 pub mod Outside
 pub mod Fuel

@@ -119,6 +119,17 @@ pub struct White<'s> {
     pub ranges: &'s [CodeRange],
 }
 
+impl White<'static> {
+    // White_Space.
+    pub fn new() -> White<'static>
+        ensures { result.ranges.now ≡ white_space }
+    {
+        White {
+            ranges: white_space(),
+        }
+    }
+}
+
 impl<'s> CharSet for White<'s> {
     ghost has = { λ w. in_ranges w.ranges.now };
 
@@ -131,6 +142,17 @@ impl<'s> CharSet for White<'s> {
 #[derive(Clone, Copy, Debug, PartialEq, Eq)]
 pub struct InlineWhite<'s> {
     pub ranges: &'s [CodeRange],
+}
+
+impl InlineWhite<'static> {
+    // White_Space other than CR and LF.
+    pub fn new() -> InlineWhite<'static>
+        ensures { result.ranges.now ≡ white_space }
+    {
+        InlineWhite {
+            ranges: White::new().ranges,
+        }
+    }
 }
 
 impl<'s> CharSet for InlineWhite<'s> {

@@ -14,26 +14,8 @@ ghost use Rattle.strips.specs.Lines.{WhiteLine, Trims, Left, left_before};
 use byte_search::until;
 use finder::{StartMarker, is_line_end};
 use rules::{Cursor, Whitespace};
-use spaces::{CharSet, InlineWhite, White, run_backward, run_forward, white_space};
+use spaces::{CharSet, InlineWhite, White, run_backward, run_forward};
 use syntax::Settings;
-
-// White space.
-fn white() -> White<'static>
-    ensures { result.ranges.now ≡ white_space }
-{
-    White {
-        ranges: white_space(),
-    }
-}
-
-// White space other than CR and LF.
-fn inline_white() -> InlineWhite<'static>
-    ensures { result.ranges.now ≡ white_space }
-{
-    InlineWhite {
-        ranges: white_space(),
-    }
-}
 
 // How many bytes of a text are left when the characters of the set at its end are taken off.
 fn trim_end_matches<C: CharSet>(text: &[u8], set: &C) -> usize
@@ -51,7 +33,7 @@ pub fn trim_end(text: &[u8]) -> usize
     ensures within { result ≤ length text.now }
     ensures least { Trims (in_ranges white_space) text.now result }
 {
-    trim_end_matches(text, &white())
+    trim_end_matches(text, &White::new())
 }
 
 // How many bytes of a text are left when the white space other than CR and LF at its end is taken off.
@@ -60,7 +42,7 @@ pub fn trim_end_inline(text: &[u8]) -> usize
     ensures within { result ≤ length text.now }
     ensures least { Trims (in_line white_space) text.now result }
 {
-    trim_end_matches(text, &inline_white())
+    trim_end_matches(text, &InlineWhite::new())
 }
 
 // How many bytes the white space at the front has.
@@ -69,10 +51,11 @@ pub fn skip_whitespace(rest: &[u8]) -> usize
     ensures within { result ≤ length rest.now }
     ensures longest { Longest (in_ranges white_space) rest.now result }
 {
-    run_forward(&white(), rest)
+    run_forward(&White::new(), rest)
 }
 
-// Whether only white space other than CR and LF lies back from a place to a CR, an LF or the start.
+// Whether only white space other than CR and LF lies back from a place to a CR, an LF or the start. A cursor would ask that the place lies in the source;
+// this answers for places past the end too.
 pub fn line_is_white(source: &[u8], at: usize) -> bool
     ensures value { result ≡ all_pass (in_line white_space) (line_before (behind_at source.now at) []) }
     ensures line { Decides result (WhiteLine source.now at) }

@@ -1,7 +1,7 @@
 -- Tables of delimiters: one entry read, and one replaced.
 use Rattle.std.proofs.Common.{◌≡◌, ℕ, ◌<◌, true, false, List, [], map, length, get_or, set, sym, ap, ◌∙◌, ⊎_elim, arith, get_or-set_other, get_or-set_same, eqb-true}
 use borrow.Author.Tests.{eqb-false}
-use Rattle.std.proofs.lemmas.List.{get_or-map, map-set, length-map}
+use Rattle.std.proofs.lemmas.List.{map-set, length-map}
 use Rattle.std.proofs.lemmas.Bool.{cases_Bool}
 use Rattle.syntax.specs.declared.delimiter.Delimiter.{Delimiter}
 use Rattle.syntax.specs.declared.name.DelimiterName.{DelimiterName}
@@ -9,16 +9,6 @@ use Rattle.syntax.specs.Delims.{bytes_of}
 use Rattle.syntax.specs.Names.{index_of, same_name}
 use Rattle.syntax.specs.Building.{table_of}
 use Rattle.syntax.specs.Drafts.{replaced}
-
--- the entry of a name is what the delimiter at its place holds
-pub table_at : (ds : List Delimiter) (n : DelimiterName) (d : Delimiter) → index_of n < length ds → table_of ds n ≡ bytes_of (get_or ds (index_of n) d)
-table_at ds n d h = get_or-map bytes_of ds (index_of n) d [] h
-
--- what the delimiter at a name's place holds is its entry
-pub table_read : (ds : List Delimiter) (n : DelimiterName) (i : ℕ) (d : Delimiter) (bs : List ℕ) → i ≡ index_of n → i < length ds → bs ≡ bytes_of (get_or ds i d) → bs ≡ table_of ds n
-table_read ds n i d bs e h f =
-    let l : index_of n < length ds = omega arith in
-    f ∙ ap (λ k. bytes_of (get_or ds k d)) e ∙ sym (table_at ds n d l)
 
 -- one delimiter replaced: its entry is the new bytes, and the others are as they were
 pub table_set : (ds : List Delimiter) (which n : DelimiterName) (d : Delimiter) → index_of which < length ds → table_of (set ds (index_of which) d) n ≡ replaced (table_of ds) which (bytes_of d) n

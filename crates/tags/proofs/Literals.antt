@@ -9,7 +9,7 @@ use Rattle.rules.specs.declared.Pending.TheVariants.{Nothing}
 use Rattle.rules.specs.Bytes.{is_digit, leads_name, is_name_part, run}
 use Rattle.rules.specs.State.{plain, fault}
 use Rattle.tags.specs.Names.{named}
-use Rattle.words.proofs.Runs.{run_yes}
+use Rattle.rules.proofs.Runs.{run_yes}
 
 pub named_at : (m : LexerState) (xs : List ℕ) → 0 < length xs → named m xs ≡ elim (leads_name (get_or xs 0 0)) [ true ↦ plain Ident (run is_name_part (get_or xs 0 0 ∷ drop 1 xs)) m Nothing | false ↦ fault NoToken 0 ]
 named_at m [] h = absurd (omega arith)

@@ -11,7 +11,7 @@ use byte_search::{after, starts_with_bytes};
 use pieces::Kind;
 use rules::{BlockSentinel, LexerState, Pending, Step, Whitespace};
 use signs::handle_tail_ws;
-use spaces::{InlineWhite, line_end, run_forward, white_space};
+use spaces::{InlineWhite, line_end, run_forward};
 use syntax::DelimiterName;
 
 // `-` orders a trim behind a variable.
@@ -38,12 +38,7 @@ fn signed_end(end: &[u8], rest: &[u8]) -> bool
 fn line_rest(rest: &[u8]) -> Option<usize>
     ensures { result ≡ line_rest (white_run (in_line white_space) rest.now) (drop (white_run (in_line white_space) rest.now) rest.now) }
 {
-    let white = run_forward(
-        &InlineWhite {
-            ranges: white_space(),
-        },
-        rest,
-    );
+    let white = run_forward(&InlineWhite::new(), rest);
     let behind = after(rest, white);
     let end = line_end(behind);
     (behind.is_empty() || end != 0).then_some(white + end)

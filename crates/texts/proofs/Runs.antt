@@ -1,33 +1,9 @@
--- Runs of bytes that pass a test, and the bytes of a line.
-use Rattle.std.proofs.Common.{◌≡◌, ℕ, zero, suc, ◌<◌, Bool, true, false, not, eqb, List, [], ◌∷◌, length, get_or, Some, None, Option, unwrap_or, sym, ap, ⊎_elim, arith}
+-- The bytes of a line.
+use Rattle.std.proofs.Common.{◌≡◌, ℕ, zero, suc, ◌<◌, true, not, eqb, List, [], ◌∷◌, length, get_or, Some, None, Option, unwrap_or, sym, ap, ⊎_elim, arith}
 use Rattle.std.proofs.lemmas.Bool.{eqb-true, or_cases}
 use Rattle.byte_search.specs.Search.{First, Among, HoldsAny}
 use Rattle.finder.specs.Finding.{is_line_end}
-use Rattle.rules.specs.Bytes.{in_line, run, LongestRun}
-
-module _ (p : ℕ → Bool) where
-  run_yes : (x : ℕ) (xs : List ℕ) → p x ≡ true → run p (x ∷ xs) ≡ suc (run p xs)
-  unfolding run
-  run_yes x xs e = ap (λ b. elim b [ true ↦ suc (run p xs) | false ↦ 0 ]) e
-
-  run_no : (x : ℕ) (xs : List ℕ) → p x ≡ false → run p (x ∷ xs) ≡ 0
-  unfolding run
-  run_no x xs e = ap (λ b. elim b [ true ↦ suc (run p xs) | false ↦ 0 ]) e
-
-  one_more : (x : ℕ) (xs : List ℕ) (n : ℕ) → p x ≡ true → LongestRun p xs n → LongestRun p (x ∷ xs) (suc n)
-  one_more x xs n e l = (omega (arith, l.0), (λ k. elim k as (λ k. k < suc n → p (get_or (x ∷ xs) k 0) ≡ true) [ zero ↦ λ h. e | suc k ↦ λ h. l.1 k (omega arith) ]), (λ h. l.2 (omega arith)))
-
-  -- `run` in words
-  pub run_longest : (xs : List ℕ) → LongestRun p xs (run p xs)
-  unfolding run
-  run_longest [] = (omega arith, (λ k h. absurd (omega arith)), (λ h. absurd (omega arith)))
-  run_longest (x ∷ xs) = grind (arith, run_longest xs, run_yes, run_no, one_more)
-
-  -- an answer that is the longest run is `run`
-  pub run_by : (xs : List ℕ) (n : ℕ) → LongestRun p xs n → n ≡ run p xs
-  run_by xs n l =
-      let m = run_longest xs in
-      grind (arith, l.0, l.1, l.2, m.0, m.1, m.2)
+use Rattle.rules.specs.Bytes.{in_line, LongestRun}
 
 -- the first CR or LF ends the bytes of a line
 

@@ -22,7 +22,7 @@ use signs::handle_tail_ws;
 pub use start::Start;
 use strips::{lead, skip_whitespace};
 
-// White space before an opening, if there is any, then the opening.
+// White space before an opening, if there is any, then the opening. Distance, marker and length go as a finder tells them, which is a rule of the project.
 fn gap_then(here: &Cursor, gap: usize, marker: StartMarker, len: usize) -> Verdict
     requires { gap + len ≤ length (ahead here.now) }
     ensures value { result ≡ gap_then (config_at here.now) gap marker len (ahead here.now) }

@@ -1,4 +1,4 @@
-// Openings that stand in front: what they open.
+// Openings that stand in front: what they open. As in `lib.rt` each function says for itself that its verdict lies in the bytes ahead.
 ghost use Rattle.std.specs.Prelude.{◌≡◌, ◌+◌, ◌≤◌, length, drop, pos};
 ghost use Rattle.rules.specs.Bytes.{in_line, run, LongestRun};
 ghost use Rattle.rules.specs.Config.{config_of};

@@ -86,7 +86,7 @@ fn show<F: Finder>(rt: &impl Print, mut reader: Reader, finder: &F) -> io::Resul
     }
 }
 
-// Opens a template, or an expression where the line's field says so.
+// Opens a template, or an expression where the line's field, which is passed on as it stands, says so.
 fn open<'t>(settings: &Settings, mode: &str, template: &'t [u8]) -> Result<Reader<'t>, OpenFault> {
     let mut reader = Reader::new(settings);
     match mode {

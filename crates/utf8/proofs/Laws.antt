@@ -1,7 +1,6 @@
 -- The laws of characters, their list and the well-formed prefix.
 use Rattle.std.proofs.Common.{◌≡◌, ℕ, zero, suc, ◌+◌, ◌-◌, ◌<◌, ◌≤◌, true, false, ◌⊎◌, List, [], ◌∷◌, ◌++◌, map, length, take, drop, Some, None, Ok, Err, IsUtf8, Option, Result, sym, refl, ap, ◌∙◌, subst, inl, inr, ⊎_elim, arith, take-add}
 use lib.Utf8.{scalar, scalars, encode, encodes}
-use Rattle.std.specs.Str.{IsValidUpTo}
 use Rattle.std.proofs.lemmas.List.{take-append-drop, length-drop, length-take, length-append, take_all, append_assoc, drop_at}
 use Rattle.std.proofs.lemmas.Bool.{and_parts, and_from, eq-eqb, ne_eqb, cases_lt}
 use Rattle.utf8.specs.declared.Char.{Char}
@@ -150,12 +149,6 @@ characters_scalars at xs = (spelt at xs).1
 pub prefix_front : (at : ℕ) (xs : List ℕ) → encodes (map (λ p. p.1) (characters at xs)) ≡ take (prefix xs) xs
 prefix_front at xs = (spelt at xs).2
 
-pub prefix_whole_from : (at : ℕ) (xs : List ℕ) → prefix xs ≡ length xs → encodes (map (λ p. p.1) (characters at xs)) ≡ xs
-prefix_whole_from at xs e = prefix_front at xs ∙ take_all (prefix xs) xs (omega arith)
-
-pub prefix_whole : (xs : List ℕ) → prefix xs ≡ length xs → encodes (map (λ p. p.1) (characters 0 xs)) ≡ xs
-prefix_whole xs e = prefix_whole_from 0 xs e
-
 -- scalar values that are encoded at the front belong to the prefix
 pub prefix_encodes : (cs rest : List ℕ) → scalars cs ≡ true → prefix (encodes cs ++ rest) ≡ length (encodes cs) + prefix rest
 prefix_encodes [] rest s = omega arith
@@ -191,13 +184,6 @@ utf8_whole xs u =
     let k = ap length a in
     let m = prefix_le xs in
     omega arith
-
-pub prefix_valid : (xs : List ℕ) → prefix xs < length xs → IsValidUpTo xs (prefix xs)
-prefix_valid xs h = record {
-  short = h;
-  front = prefix_utf8 xs;
-  longest = λ m g u. let l = prefix_longest xs m u in let t = length-take m xs in omega arith;
-}
 
 pub checked_ok : (s : List ℕ) → prefix s ≡ length s → checked s ≡ Ok tt
 checked_ok s e = ap (λ b. elim b [ true ↦ Ok tt | false ↦ Err (record { byte = prefix s }) ]) (eq-eqb (prefix s) (length s) e)

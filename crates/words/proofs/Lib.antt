@@ -1,3 +1,3 @@
 pub mod Operating
-pub mod Runs
+mod Runs
 pub mod Quoting

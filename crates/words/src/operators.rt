@@ -5,7 +5,7 @@ ghost use Rattle.words.specs.Operators.{singles, FirstOperator};
 
 use pieces::Operator;
 
-// The operator of one byte that the byte is, if any.
+// The operator of one byte that the byte is, if any: a table, since most bytes are none.
 #[tactic(auto, unfolding(rules::specs::Tags::first_standing, byte_search::specs::Search::stands_at))]
 fn single(b: u8) -> Option<Operator>
     ensures { (rest : List ℕ) → result ≡ first_standing singles (b ∷ rest) }

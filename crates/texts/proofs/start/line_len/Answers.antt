@@ -1,6 +1,7 @@
 use Rattle.std.proofs.Common.{sym, subst}
 use Rattle.rules.specs.Bytes.{in_line, LongestRun}
-use Rattle.texts.proofs.Runs.{run_by, line_told}
+use Rattle.rules.proofs.Runs.{run_by}
+use Rattle.texts.proofs.Runs.{line_told}
 use Rattle.texts.proofs.start.line_len.Goals as goal
 
 pub returns : goal.returns

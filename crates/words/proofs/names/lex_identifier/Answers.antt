@@ -1,6 +1,7 @@
 use Rattle.std.proofs.Common.{◌≡◌, ◌<◌, length, get_or, true, ◌∙◌, sym, subst, rules}
 use Rattle.rules.specs.Bytes.{leads_name, is_name_part, LongestRun}
-use Rattle.words.proofs.Runs.{longest_run, ident_is}
+use Rattle.rules.proofs.Runs.{longest_run}
+use Rattle.words.proofs.Runs.{ident_is}
 use Rattle.words.proofs.names.lex_identifier.Goals as goal
 
 pub returns-in-len1-up : goal.returns-in-len1-up
