@@ -1,7 +1,7 @@
 -- The laws of is_in, first_in and distance_to: each finds the first place.
 use Rattle.std.proofs.Common.{◌≡◌, ℕ, zero, suc, ◌+◌, ◌-◌, ◌<◌, ◌≤◌, true, false, eqb, List, [], ◌∷◌, length, get_or, drop, Some, None, MatchOption, Option, sym, refl, ap, ◌∙◌, subst, ⊎_elim, arith}
 use Rattle.std.specs.List.{AllWithin, HoldsAt}
-use Rattle.std.proofs.lemmas.List.{get_or-drop, length-drop}
+use Rattle.std.proofs.lemmas.List.{drop-drop, get_or-drop, length-drop}
 use Rattle.std.proofs.lemmas.Bool.{eq-eqb, eqb-true, cases_Bool, cases_lt, cases_order, both_ways, false≢true}
 use Rattle.std.proofs.lemmas.List.Prefix.{front_reads, at_reads, at_from_reads}
 use Rattle.memchr.specs.Find.{IsFirstByte, is_byte, OccursAt, FindsNeedle}
@@ -168,6 +168,14 @@ first_in_shift ns xs i n = sym (first_in_by ns xs (shift i (first_in ns (drop i 
     (λ k h p. let z : i + (k - i) ≡ k = omega arith in
     (omega (arith, p.0, length-drop i xs), subst (λ b. Among ns b) (sym (get_or-drop i xs (k - i) 0 ∙ ap (λ j. get_or xs j 0) z)) p.1))
     (first_in_first ns (drop i xs))))
+
+pub distance_shift : (ds xs : List ℕ) (i : ℕ) → i ≤ length xs → ((k : ℕ) → k < i → Stands ds xs k → ⊥) → distance_to ds xs ≡ shift i (distance_to ds (drop i xs))
+distance_shift ds xs i l n = sym (distance_by ds xs (shift i (distance_to ds (drop i xs)))
+    (first_shift (Stands ds xs) (Stands ds (drop i xs)) i (distance_to ds (drop i xs)) n
+    (λ k p. (omega (arith, p.0, length-drop i xs), ap (stands_at ds) (sym (drop-drop k i xs)) ∙ p.1))
+    (λ k h p. let z : i + (k - i) ≡ k = omega arith in
+    (omega (arith, p.0, length-drop i xs), ap (stands_at ds) (drop-drop (k - i) i xs ∙ ap (λ j. drop j xs) z) ∙ p.1))
+    (distance_first ds (drop i xs))))
 
 -- what is found behind `i`, which the search has passed
 pub found_behind : (ns xs : List ℕ) (i : ℕ) (r : Option ℕ) → ((k : ℕ) → k < i → HoldsAny ns xs k → ⊥) → r ≡ first_in ns (drop i xs) → shift i r ≡ first_in ns xs

@@ -134,12 +134,20 @@ all_cases (o ∷ os) placed q h = ⊎_elim
     (λ k. ⊎_elim (λ z. inl (subst (Has (o ∷ os)) z (has_first o os))) (λ m. inr m) (entered_cases o q placed k))
     (all_cases os (entered o placed) q h)
 
+pub all_falling : (os placed : List Opening) → Falling placed → Falling (entered_all os placed)
+unfolding entered_all
+all_falling [] placed f = f
+all_falling (o ∷ os) placed f = all_falling os (entered o placed) (entered_falling o placed f)
+
 -- the order has the same members, and its lengths do not rise
 pub ordered_has : (os : List Opening) (q : Opening) → Has os q → Has (ordered os) q
 ordered_has os q h = all_has os [] q (inl h)
 
 pub has_ordered : (os : List Opening) (q : Opening) → Has (ordered os) q → Has os q
 has_ordered os q h = ⊎_elim (λ k. k) (λ k. absurd (has_none q k)) (all_cases os [] q h)
+
+pub ordered_falling : (os : List Opening) → Falling (ordered os)
+ordered_falling os = all_falling os [] (λ j k l h. absurd (omega arith))
 
 -- an opening is entered at its place
 pub entered_at : (o : Opening) (os : List Opening) (i : ℕ) → Place os (length o.bytes) i → entered o os ≡ take i os ++ o ∷ drop i os

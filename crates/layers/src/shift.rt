@@ -24,11 +24,11 @@ where
 {
     // The layer over a stream; no line is noted yet.
     pub fn new(below: S, base: Place) -> Shift<S>
-        ensures items { shifted_items S.Item.Placed.line S.Fault.Placed.line S.Item.Placed.shifted result.base.place result.base.first (S.Stream.items result.below) (S.Stream.ending result.below) ≡ shifted_items S.Item.Placed.line S.Fault.Placed.line S.Item.Placed.shifted base None (S.Stream.items below) (S.Stream.ending below) }
-        ensures ending { shifted_ending S.Item.Placed.line S.Fault.Placed.line S.Fault.Placed.shifted result.base.place result.base.first (S.Stream.items result.below) (S.Stream.ending result.below) ≡ shifted_ending S.Item.Placed.line S.Fault.Placed.line S.Fault.Placed.shifted base None (S.Stream.items below) (S.Stream.ending below) }
-        ensures serves { (os : List Opening) → S.Stream.serves below os → S.Stream.serves result.below os }
-        ensures left { S.Stream.left result.below ≡ S.Stream.left below }
-        ensures shifts { Shifts S.Item.Placed.shifted base (first_line S.Item.Placed.line S.Fault.Placed.line (S.Stream.items below) (S.Stream.ending below)) (S.Stream.items below) (shifted_items S.Item.Placed.line S.Fault.Placed.line S.Item.Placed.shifted result.base.place result.base.first (S.Stream.items result.below) (S.Stream.ending result.below)) }
+        ensures items { ⟦<Self as Stream>⟧.items result ≡ shifted_items S.Item.Placed.line S.Fault.Placed.line S.Item.Placed.shifted base None (S.Stream.items below) (S.Stream.ending below) }
+        ensures ending { ⟦<Self as Stream>⟧.ending result ≡ shifted_ending S.Item.Placed.line S.Fault.Placed.line S.Fault.Placed.shifted base None (S.Stream.items below) (S.Stream.ending below) }
+        ensures serves { (os : List Opening) → S.Stream.serves below os → ⟦<Self as Stream>⟧.serves result os }
+        ensures left { ⟦<Self as Stream>⟧.left result ≡ S.Stream.left below }
+        ensures shifts { Shifts S.Item.Placed.shifted base (first_line S.Item.Placed.line S.Fault.Placed.line (S.Stream.items below) (S.Stream.ending below)) (S.Stream.items below) (⟦<Self as Stream>⟧.items result) }
     {
         Shift {
             below,

@@ -20,11 +20,11 @@ where
     // The layer over a stream.
     #[tactic(auto, using(crate::proofs::Dropped::gaps_drops))]
     pub fn new(below: S) -> Tokens<S>
-        ensures items { drop_gaps S.Item.Gap.gap (S.Stream.items result.below) ≡ drop_gaps S.Item.Gap.gap (S.Stream.items below) }
-        ensures ending { S.Stream.ending result.below ≡ S.Stream.ending below }
-        ensures serves { (os : List Opening) → S.Stream.serves below os → S.Stream.serves result.below os }
-        ensures left { S.Stream.left result.below ≡ S.Stream.left below }
-        ensures drops { Drops S.Item.Gap.gap (S.Stream.items below) (drop_gaps S.Item.Gap.gap (S.Stream.items result.below)) }
+        ensures items { ⟦<Self as Stream>⟧.items result ≡ drop_gaps S.Item.Gap.gap (S.Stream.items below) }
+        ensures ending { ⟦<Self as Stream>⟧.ending result ≡ S.Stream.ending below }
+        ensures serves { (os : List Opening) → S.Stream.serves below os → ⟦<Self as Stream>⟧.serves result os }
+        ensures left { ⟦<Self as Stream>⟧.left result ≡ S.Stream.left below }
+        ensures drops { Drops S.Item.Gap.gap (S.Stream.items below) (⟦<Self as Stream>⟧.items result) }
     {
         Tokens { below }
     }

@@ -1,13 +1,12 @@
 -- Tags of raw blocks: what stands in front, step by step, and that it lies in the bytes.
-use Rattle.std.proofs.Common.{◌≡◌, ℕ, suc, ◌+◌, ◌≤◌, true, false, ◌&&◌, List, [], ◌∷◌, length, drop, Some, None, Option, ap, arith}
+use Rattle.std.proofs.Common.{◌≡◌, ℕ, ◌+◌, ◌≤◌, true, false, List, [], ◌∷◌, length, drop, Some, None, Option, ap, arith}
 use Rattle.std.proofs.lemmas.List.{length-drop, drop_all}
 use Rattle.byte_search.specs.Search.{stands_at}
 use Rattle.byte_search.proofs.Stands.{stands_fits}
 use Rattle.spaces.specs.Lines.{blank_run}
 use Rattle.rules.specs.declared.EndRaw.{EndRaw}
 use Rattle.rules.specs.declared.whitespace.Whitespace.{Whitespace}
-use Rattle.rules.specs.declared.whitespace.Whitespace.TheVariants.{Default}
-use Rattle.rules.specs.Bytes.{is_sign, sign_of, sign_at, sign_len}
+use Rattle.rules.specs.Bytes.{sign_at, sign_len}
 use Rattle.rules.specs.Config.{Config}
 use Rattle.rules.specs.Texts.{Basic, basic_end, basic_tag, endraw_name, closer_by, closer_at}
 use Rattle.raws.specs.Closers.{Within, TagWithin}
@@ -15,15 +14,6 @@ use Rattle.raws.specs.Closers.{Within, TagWithin}
 -- the sign and the end of a tag
 
 module _ (end : List ℕ) (n : ℕ) where
-  pub end_signed : (x : ℕ) (ys : List ℕ) → (is_sign x && stands_at end ys) ≡ true → basic_end end n (x ∷ ys) ≡ Some (n + suc (length end), sign_of x)
-  end_signed x ys e = grind arith
-
-  pub end_bare : (x : ℕ) (ys : List ℕ) → (is_sign x && stands_at end ys) ≡ false → stands_at end (x ∷ ys) ≡ true → basic_end end n (x ∷ ys) ≡ Some (n + length end, Default)
-  end_bare x ys e f = grind arith
-
-  pub end_none : (x : ℕ) (ys : List ℕ) → (is_sign x && stands_at end ys) ≡ false → stands_at end (x ∷ ys) ≡ false → basic_end end n (x ∷ ys) ≡ None
-  end_none x ys e f = grind arith
-
   -- the end of a tag lies in the bytes
   abbrev Behind : List ℕ → Option Basic → Type 0
   Behind ys None = Unit {0}

@@ -1,5 +1,5 @@
 -- What a reader is to the rules, and what its calls tell.
-use Rattle.std.specs.Prelude.{ℕ, suc, List, [], ℤ, pos, Some, None, Option, Ok, Err, Result}
+use Rattle.std.specs.Prelude.{ℕ, suc, ◌+◌, ◌-◌, true, List, [], length, ℤ, pos, Some, None, Option, Ok, Err, Result}
 use Rattle.finder.specs.Finding.{Opening}
 use Rattle.stream.specs.Told.{Ending}
 use Rattle.places.specs.declared.Place.{Place}
@@ -8,11 +8,14 @@ use Rattle.pieces.specs.declared.fault.ReadFault.{ReadFault}
 use Rattle.pieces.specs.declared.piece.Piece.{Piece}
 use Rattle.syntax.specs.Openings.{openings_of}
 use Rattle.rules.specs.declared.LexerState.{LexerState}
+use Rattle.rules.specs.declared.Step.{Step}
+use Rattle.rules.specs.declared.Fault.{Fault}
 use Rattle.rules.specs.Config.{Config, config_of}
 use Rattle.rules.specs.At.{core_at, place_at}
 use Rattle.rules.specs.Reading.{Call, Gives, Stops, call, measure, meaning, starting, balance_at}
-use Rattle.rules.specs.State.{Core}
-use Rattle.rules.specs.Told.{placed, pieces, ended, ending}
+use Rattle.rules.specs.Shapes.{Fits}
+use Rattle.rules.specs.State.{Core, Verdict}
+use Rattle.rules.specs.Told.{placed, pieces, ended, ending, fault_span}
 use Rattle.rules.specs.Texts.{Same}
 use Rattle.reader.specs.declared.reader.Reader.{Reader}
 use Rattle.reader.specs.declared.reading.Reading.{Reading}
@@ -40,6 +43,32 @@ view_of r = view r.reading
 -- what the rules take from its settings
 abbrev pub config : Reader → Config
 config r = config_of r.settings
+
+-- a verdict keeps to the bytes that are left to a reading
+abbrev pub Keeps : Reading → Verdict → Type 0
+Keeps r v = Fits (r.left - r.offset) r.state r.pending v
+
+-- the view behind a piece that is taken off the bytes left
+abbrev pub behind_step : Reading → Step → View
+behind_step r p = record {
+  core = core_at r.template.now r.left (r.offset + p.len) p.state p.pending r.cut_told;
+  place = place_at r.template.now (r.offset + p.len);
+  balance = balance_at r.balance p.state;
+  told = r.told;
+}
+
+-- the view behind the cut, which ends where the template does
+abbrev pub behind_cut : Reading → View
+behind_cut r = record {
+  core = core_at r.template.now (length r.template.now) (length r.template.now) r.state r.pending true;
+  place = place_at r.template.now (length r.template.now);
+  balance = r.balance;
+  told = r.told;
+}
+
+-- a fault of the rules, told at its place
+abbrev pub fault_at : Reading → Fault → ReadFault
+fault_at r f = record { kind = f.kind; span = fault_span f.kind (place_at r.template.now r.offset) (place_at r.template.now (r.offset + f.distance)) }
 
 -- a view of a template, or of an expression, of which nothing is read
 abbrev pub unread : Config → LexerState → List ℕ → View

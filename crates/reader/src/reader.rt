@@ -1,10 +1,9 @@
 // The reader.
-ghost use Rattle.std.specs.Prelude.{◌≡◌, ◌-◌, ◌≢◌};
+ghost use Rattle.std.specs.Prelude.{◌≡◌, ◌≢◌};
 ghost use Rattle.rules.specs.Reading.{meaning, Unread};
-ghost use Rattle.rules.specs.Shapes.{Fits};
 ghost use Rattle.rules.specs.Texts.{verdict as ruled, AllReal};
 ghost use Rattle.syntax.specs.Openings.{openings_of};
-ghost use Rattle.reader.specs.Views.{view_of, config, tell, items_of, ending_of, left_of, Lawful};
+ghost use Rattle.reader.specs.Views.{view_of, config, tell, items_of, ending_of, left_of, Keeps, Lawful};
 
 use super::reading::Reading;
 use super::verdicts::verdict_at;
@@ -26,7 +25,7 @@ impl<'t> Reader<'t> {
     // What the rules say of the bytes ahead.
     fn verdict<F: Finder>(&self, finder: &F) -> Verdict
         ensures value { result ≡ ruled (F.Finder.openings finder.now) (config self.now) (view_of self.now).core }
-        ensures fits { Fits (self.now.reading.left - self.now.reading.offset) self.now.reading.state self.now.reading.pending result }
+        ensures fits { Keeps self.now.reading result }
     {
         let reading = &self.reading;
         let here = Cursor {

@@ -1,11 +1,11 @@
 // How far a template is read.
-ghost use Rattle.std.specs.Prelude.{◌≡◌, ◌+◌, ◌-◌, ◌<◌, ◌≤◌, true, length, Some as already, None as untold};
+ghost use Rattle.std.specs.Prelude.{◌≡◌, ◌+◌, ◌-◌, ◌<◌, ◌≤◌, length, Some as already, None as untold};
 ghost use Rattle.places.specs.Places.{capped};
-ghost use Rattle.rules.specs.At.{core_at, place_at, part_at, cut_part};
+ghost use Rattle.rules.specs.At.{place_at, part_at, cut_part};
 ghost use Rattle.rules.specs.Config.{config_of};
 ghost use Rattle.rules.specs.Reading.{act, balance_at};
-ghost use Rattle.rules.specs.Shapes.{held, least, level, magnitude, Forward, Fits};
-ghost use Rattle.rules.specs.Told.{placed, fault_span};
+ghost use Rattle.rules.specs.Shapes.{held, least, level, magnitude, Forward};
+ghost use Rattle.rules.specs.Told.{placed};
 
 use super::chop::left_len;
 use super::parts::{balance_at, fault_span, text_range};
@@ -46,7 +46,7 @@ pub struct Reading<'t> {
 
 impl<'t> Reading<'t> {
     ghost use Rattle.reader.specs.Opens.{Leaves};
-    ghost use Rattle.reader.specs.Views.{view, told_as, tell_by, unread};
+    ghost use Rattle.reader.specs.Views.{view, told_as, tell_by, unread, Keeps, behind_step, behind_cut, fault_at};
 
     // The start of a template, which starts in this state.
     pub(crate) fn start(settings: &Settings, state: LexerState, template: &'t [u8]) -> Reading<'t>
@@ -73,7 +73,7 @@ impl<'t> Reading<'t> {
     fn take_step(&mut self, step: Step) -> Piece
         requires { Forward (self.old.left - self.old.offset) self.old.state self.old.pending step }
         ensures piece { result ≡ placed (place_at self.old.template.now self.old.offset) (part_at self.old.template.now self.old.offset step) }
-        ensures view { view self.new ≡ record { core = core_at self.old.template.now self.old.left (self.old.offset + step.len) step.state step.pending self.old.cut_told; place = place_at self.old.template.now (self.old.offset + step.len); balance = balance_at self.old.balance step.state; told = self.old.told } }
+        ensures view { view self.new ≡ behind_step self.old step }
     {
         let offset = self.offset;
         let start = self.place;
@@ -98,7 +98,7 @@ impl<'t> Reading<'t> {
     fn take_cut(&mut self) -> Piece
         requires { self.old.offset ≡ self.old.left }
         ensures piece { result ≡ placed (place_at self.old.template.now self.old.offset) (cut_part self.old.template.now self.old.left) }
-        ensures view { view self.new ≡ record { core = core_at self.old.template.now (length self.old.template.now) (length self.old.template.now) self.old.state self.old.pending true; place = place_at self.old.template.now (length self.old.template.now); balance = self.old.balance; told = self.old.told } }
+        ensures view { view self.new ≡ behind_cut self.old }
     {
         let offset = self.offset;
         let len = self.template.len();
@@ -130,7 +130,7 @@ impl<'t> Reading<'t> {
     // A fault at its place.
     fn fault(&self, fault: Fault) -> ReadFault
         requires { fault.distance ≤ self.now.left - self.now.offset }
-        ensures { result ≡ record { kind = fault.kind; span = fault_span fault.kind (place_at self.now.template.now self.now.offset) (place_at self.now.template.now (self.now.offset + fault.distance)) } }
+        ensures { result ≡ fault_at self.now fault }
     {
         let end = self
             .place
@@ -143,7 +143,7 @@ impl<'t> Reading<'t> {
 
     // Does what the rules say: takes a piece off, or the cut, or tells the ending.
     pub(crate) fn answer(&mut self, verdict: Verdict) -> Result<Option<Piece>, ReadFault>
-        requires fits { Fits (self.old.left - self.old.offset) self.old.state self.old.pending verdict }
+        requires fits { Keeps self.old verdict }
         requires untold { self.old.told ≡ untold }
         ensures value { result ≡ (tell_by (view self.old) (act (view self.old).core verdict)).answer }
         ensures view { view self.new ≡ (tell_by (view self.old) (act (view self.old).core verdict)).after }

@@ -17,21 +17,21 @@ pub struct LookAhead<S: Stream> {
 impl<S: Stream> LookAhead<S> {
     // A look-ahead over a stream; it means what the stream means.
     pub fn new(below: S) -> LookAhead<S>
-        ensures items { option_to_list result.held ++ S.Stream.items result.below ≡ S.Stream.items below }
-        ensures ending { S.Stream.ending result.below ≡ S.Stream.ending below }
-        ensures serves { (os : List Opening) → S.Stream.serves below os → S.Stream.serves result.below os }
-        ensures left { length (option_to_list result.held) + S.Stream.left result.below ≡ S.Stream.left below }
+        ensures items { ⟦<Self as Stream>⟧.items result ≡ S.Stream.items below }
+        ensures ending { ⟦<Self as Stream>⟧.ending result ≡ S.Stream.ending below }
+        ensures serves { (os : List Opening) → S.Stream.serves below os → ⟦<Self as Stream>⟧.serves result os }
+        ensures left { ⟦<Self as Stream>⟧.left result ≡ S.Stream.left below }
     {
         LookAhead { below, held: None }
     }
 
     // Tells what next will tell, and leaves the meaning.
     pub fn look<F: Finder>(&mut self, finder: &F) -> Result<Option<S::Item>, S::Fault>
-        ensures tells { S.Stream.serves self.old.below (F.Finder.openings finder.now) → Look (option_to_list self.old.held ++ S.Stream.items self.old.below) (S.Stream.ending self.old.below) result }
-        ensures items { S.Stream.serves self.old.below (F.Finder.openings finder.now) → option_to_list self.new.held ++ S.Stream.items self.new.below ≡ option_to_list self.old.held ++ S.Stream.items self.old.below }
-        ensures ending { S.Stream.serves self.old.below (F.Finder.openings finder.now) → S.Stream.ending self.new.below ≡ S.Stream.ending self.old.below }
-        ensures serves { (os : List Opening) → S.Stream.serves self.old.below os → S.Stream.serves self.new.below os }
-        ensures left { length (option_to_list self.new.held) + S.Stream.left self.new.below ≤ length (option_to_list self.old.held) + S.Stream.left self.old.below }
+        ensures tells { ⟦<Self as Stream>⟧.serves self.old (F.Finder.openings finder.now) → Look (⟦<Self as Stream>⟧.items self.old) (⟦<Self as Stream>⟧.ending self.old) result }
+        ensures items { ⟦<Self as Stream>⟧.serves self.old (F.Finder.openings finder.now) → ⟦<Self as Stream>⟧.items self.new ≡ ⟦<Self as Stream>⟧.items self.old }
+        ensures ending { ⟦<Self as Stream>⟧.serves self.old (F.Finder.openings finder.now) → ⟦<Self as Stream>⟧.ending self.new ≡ ⟦<Self as Stream>⟧.ending self.old }
+        ensures serves { (os : List Opening) → ⟦<Self as Stream>⟧.serves self.old os → ⟦<Self as Stream>⟧.serves self.new os }
+        ensures left { ⟦<Self as Stream>⟧.left self.new ≤ ⟦<Self as Stream>⟧.left self.old }
     {
         if self.held.is_none() {
             self.held = self.below.next(finder)?;
