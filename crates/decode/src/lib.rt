@@ -25,7 +25,7 @@ fn unescaped_len(text: &[u8]) -> Result<usize, DecodeFault>
     ensures within { IfOk result (λ n. n ≤ length text.now) }
 {
     let mut chars = Unescaper::new(text);
-    // a stream lends a finder to each call and may fail, so it is no iterator that could be summed
+    // A chain of `from_fn` with `sum` was tried: the library says nothing of a sum into a `Result`, so the length is not known.
     let mut len = 0;
     while let Some(c) = chars.next(&NoFinder)? {
         len += c.len_utf8();
@@ -61,7 +61,7 @@ fn write_unescaped(text: &[u8], dst: &mut [u8])
     ensures { dst.new ≡ encodes (unescapes text.now).points ++ drop (length (encodes (unescapes text.now).points)) dst.old }
 {
     let mut chars = Unescaper::new(text);
-    // the place is counted by hand: what is left of a `&mut` would have to be handed back through each borrow, which is no plainer
+    // The place is counted by hand: what is left of a `&mut` would have to be handed back through each borrow, which is no plainer.
     let mut at = 0;
     while let Ok(Some(c)) = chars.next(&NoFinder) {
         at += put(dst, at, c);
@@ -93,7 +93,7 @@ pub enum DecodeError {
     NoMemory,
 }
 
-// Shown as the fault, or that there is no memory.
+// Shown as the fault, or that there is no memory; by hand, since a derive would state no text.
 impl fmt::Display for DecodeError {
     ghost output = { λ e. Some (error_text e) };
 

@@ -41,6 +41,7 @@ impl<'t> Stream for CharIndices<'t> {
         let at = self.at;
         match char_at(self.text, at) {
             Some(c) => {
+                // a stream moves by the character that it tells
                 self.at = at + c.width;
                 Ok(Some((at, c.code)))
             }

@@ -24,7 +24,7 @@ pub enum DecodeFault {
     TooShort(usize),
 }
 
-// Shown by its name and place.
+// Shown by its name and place; by hand, since a derive would state no text.
 impl fmt::Display for DecodeFault {
     ghost output = { λ f. Some (fault_text f) };
 
@@ -56,7 +56,7 @@ impl From<BadEscape> for DecodeFault {
 }
 
 impl DecodeFault {
-    // The refusal's number, by which C and the recorded answers know it.
+    // The refusal's number: the rules of this project give each one (docs/RULES.md), whatever the enum's order.
     pub fn number(self) -> u32
         ensures { result ≡ number_of self }
     {

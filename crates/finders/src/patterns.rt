@@ -14,7 +14,7 @@ use finder::StartMarker;
 use syntax::{Delimiter, DelimiterName, Settings};
 
 // At most five patterns, the longest first.
-// The array has a count beside it: matchers are `Copy` and use no heap, and the library's `ArrayVec` is not `Copy`.
+// The array has a count beside it, which `enter` alone moves: matchers are `Copy` and use no heap, and the library's `ArrayVec` is not `Copy`.
 #[derive(Clone, Copy, Debug)]
 pub(crate) struct Patterns {
     pub(crate) list: [Pattern; 5],

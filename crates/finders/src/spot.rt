@@ -22,7 +22,8 @@ fn is_blank(bytes: &[u8], was: bool) -> bool
     }
 }
 
-// A place of a source, and what is known of its line.
+// A place of a source, and what is known of its line. The source's earlier bytes are kept, since a line is looked back over. That a test of the line leaves the place
+// as it is (`Stays`) stands in each contract: a fact of before and behind is none that an invariant could hold.
 #[derive(Clone, Copy, Debug)]
 pub(crate) struct Spot<'s> {
     pub(crate) source: &'s [u8],
@@ -57,7 +58,7 @@ impl<'s> Spot<'s> {
         after(self.source, self.at)
     }
 
-    // Goes `n` bytes on.
+    // Goes `n` bytes on, which is the one step that a finder makes.
     pub(crate) fn advance(&mut self, n: usize)
         requires { self.old.at + n ≤ length self.old.source.now }
         ensures source { self.new.source.now ≡ self.old.source.now }

@@ -8,8 +8,8 @@ ghost use Rattle.hex_fields.specs.declared.HexError.TheVariants.{NoMemory as una
 ghost use Rattle.hex_fields.specs.Hex.{byte_of, Read, ReadField};
 
 use std::alloc::{AllocError, AllocFailed, Global};
-use std::error::Error;
 use std::fmt;
+use thiserror::Error;
 
 // Bytes to be shown, two digits each and a space between two.
 #[derive(Clone, Copy, Debug)]
@@ -28,23 +28,14 @@ impl fmt::Display for Hex<'_> {
 }
 
 // Why hexadecimal digits are not read.
-#[derive(Clone, Copy, Debug, PartialEq, Eq)]
+#[derive(Clone, Copy, Debug, PartialEq, Eq, Error)]
 pub enum HexError {
     // a character that is no digit, or one digit too many
+    #[error("not hexadecimal")]
     NotHex,
+    #[error("no memory")]
     NoMemory,
 }
-
-impl fmt::Display for HexError {
-    fn fmt<W: fmt::Write>(&self, f: &mut fmt::Formatter<W>) -> fmt::Result {
-        match *self {
-            HexError::NotHex => f.write_str("not hexadecimal"),
-            HexError::NoMemory => f.write_str("no memory"),
-        }
-    }
-}
-
-impl Error for HexError {}
 
 impl From<AllocError> for HexError {
     ghost from_gives = { λ _ y. y ≡ unallocated };

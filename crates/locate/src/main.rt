@@ -52,7 +52,7 @@ fn seek<F: Finder + Drop>(
     }
 }
 
-// Answers one line.
+// Answers one line. What it shares with `tokenize` stands there with the reason.
 fn answer(rt: &(impl AllocGlobal + Print), line: &str) -> anyhow::Result<()> {
     let mut draft = Draft::new();
     let mut rest = line;

@@ -10,7 +10,7 @@ fn run(rt: &(impl Alloc + Input + Print)) -> anyhow::Result<()> {
     let mut input = Vec::new(rt.alloc());
     rt.reader().read_to_end(&mut input)?;
     let source = input.as_slice();
-    // the step is what was found, so this is no walk over places
+    // The step is what was found, and each find is printed before the next is sought, so a chain with a fold would be no plainer.
     let mut offset = 0usize;
     let mut count = 0u64;
     while let Some((distance, marker, len)) = DefaultFinder.find(source, offset) {

@@ -38,7 +38,7 @@ pub struct ReadFault {
     pub span: Span,
 }
 
-// Shown by its name and where it begins.
+// Shown by its name and where it begins; by hand, since a derive would state no text.
 impl fmt::Display for ReadFault {
     ghost output = { λ f. Some (fault_text f) };
 
@@ -61,7 +61,7 @@ impl From<DecodeFault> for FaultKind {
 }
 
 impl FaultKind {
-    // The fault's number, by which C and the recorded answers know it.
+    // The fault's number: the rules of this project give each one (docs/RULES.md), whatever the enum's order.
     pub fn number(self) -> u32
         ensures { result ≡ number_of self }
     {

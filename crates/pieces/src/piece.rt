@@ -5,7 +5,8 @@ use super::kind::Kind;
 use places::Span;
 use ranged::Ranged;
 
-// From one byte of a template up to, and without, another.
+// From one byte of a template up to, and without, another. A span's fields at another type: a generic range would be named at every use by what it is of, and no
+// function does the same with both.
 #[derive(Clone, Copy, Debug, PartialEq, Eq)]
 pub struct TextRange {
     pub start: u32,

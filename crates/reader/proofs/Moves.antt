@@ -11,7 +11,7 @@ use Rattle.rules.specs.At.{place_at}
 use Rattle.rules.specs.Reading.{Part, balance_at}
 use Rattle.rules.specs.Shapes.{level, magnitude}
 use Rattle.rules.specs.Told.{placed}
-use Rattle.rules.proofs.Whole.{place_on, place_offset, place_end}
+use Rattle.rules.proofs.Whole.{place_on, place_offset}
 
 -- the place behind some bytes more, as it is told
 pub advanced : (t : List ℕ) (i k : ℕ) (ys zs : List ℕ) (p q : Place) → p ≡ capped (place_at t i) → ys ≡ drop i t → zs ≡ take k ys → q ≡ capped (beyond zs p) → q ≡ capped (place_at t (i + k))
@@ -21,11 +21,6 @@ advanced t i k ys zs p q h a b e =
     ∙ capped_beyond zs (place_at t i)
     ∙ ap (λ l. capped (beyond l (place_at t i))) (b ∙ ap (take k) a)
     ∙ ap capped (place_on t i k)
-
--- the same to the end
-pub advanced_all : (t : List ℕ) (i : ℕ) (zs : List ℕ) (p q : Place) → i ≤ length t → p ≡ capped (place_at t i) → zs ≡ drop i t → q ≡ capped (beyond zs p) → q ≡ capped (place_at t (length t))
-advanced_all t i zs p q l h a e =
-    e ∙ ap (λ x. capped (beyond zs x)) h ∙ capped_beyond zs (place_at t i) ∙ ap (λ x. capped (beyond x (place_at t i))) a ∙ ap capped (place_end t i i refl l)
 
 range_told : (t : List ℕ) (i a b : ℕ) → i ≤ length t → a ≤ b → i + b ≤ 16777216
     → ◌≡◌ {A = TextRange} (record { start = i + a; end = i + b }) (record { start = min ((place_at t i).offset + a) offset_cap; end = min ((place_at t i).offset + b) offset_cap })

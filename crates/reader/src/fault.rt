@@ -25,7 +25,7 @@ impl From<NotUtf8> for OpenFault {
 }
 
 impl OpenFault {
-    // The refusal's number, by which C and the recorded answers know it.
+    // The refusal's number: the rules of this project give each one (docs/RULES.md), whatever the enum's order.
     pub fn number(self) -> u32
         ensures { result ≡ number_of self }
     {
@@ -56,7 +56,7 @@ impl OpenFault {
     }
 }
 
-// Shown by its name, and where a byte is at fault, by the byte.
+// Shown by its name, and where a byte is at fault, by the byte; by hand, since a derive would state no text.
 impl fmt::Display for OpenFault {
     ghost output = { λ f. Some (fault_text f) };
 

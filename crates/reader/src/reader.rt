@@ -46,10 +46,7 @@ impl<'t> Reader<'t> {
         ensures lawful { Lawful self.old (F.Finder.openings finder.now) → result ≡ (tell (openings_of self.old.settings) (config self.old) (view_of self.old)).answer }
     {
         match self.reading.told {
-            Some(ending) => {
-                ending?;
-                Ok(None)
-            }
+            Some(ending) => ending.map(|()| None),
             None => {
                 let verdict = self.verdict(finder);
                 self.reading.answer(verdict)

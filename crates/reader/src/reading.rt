@@ -16,7 +16,7 @@ use rules::{Fault, LexerState, Pending, Step, Verdict};
 use stream::Ending;
 use syntax::Settings;
 
-// A template, how far it is read, what waits there, and what was told.
+// A template, how far it is read, what waits there, and what was told. The bytes behind are kept, since some rules look back over the line.
 #[derive(Drop)]
 pub struct Reading<'t> {
     pub(crate) template: &'t [u8],
@@ -30,7 +30,7 @@ pub struct Reading<'t> {
     pub(crate) pending: Pending,
     // brackets that were opened, less those that were closed
     pub(crate) balance: i64,
-    // whether the cut was told, which the rules' state says; the code goes by how many are left
+    // whether the cut was told: the rules' state has it, and so does what a reading is to them, while the code goes by how many are left
     pub(crate) cut_told: bool,
     // the ending, once it was told
     pub(crate) told: Option<Ending<ReadFault>>,
@@ -80,6 +80,7 @@ impl<'t> Reading<'t> {
         let end = start.advance(until(after(self.template, offset), step.len));
         let text = text_range(offset, step.from, step.to);
         let balance = balance_at(self.balance, step.state);
+        // a reading moves by the piece that it tells
         self.offset = offset + step.len;
         self.place = end;
         self.state = step.state;
@@ -93,28 +94,17 @@ impl<'t> Reading<'t> {
         }
     }
 
-    // Takes the cut off, behind which nothing is left. It moves as a step does, but what is left moves too, and no method can do a part of either:
-    // the invariant ties the offset to what waits.
+    // Takes the cut off, behind which nothing is left: then all of the template is left, and what was cut is a piece like others.
     fn take_cut(&mut self) -> Piece
-        requires { self.old.offset ≡ self.old.left }
+        requires here { self.old.offset ≡ self.old.left }
+        requires some { self.old.left < length self.old.template.now }
         ensures piece { result ≡ placed (place_at self.old.template.now self.old.offset) (cut_part self.old.template.now self.old.left) }
         ensures view { view self.new ≡ behind_cut self.old }
     {
-        let offset = self.offset;
-        let len = self.template.len();
-        let start = self.place;
-        let end = start.advance(after(self.template, offset));
-        let text = text_range(offset, 0, len - offset);
-        self.left = len;
-        self.offset = len;
-        self.place = end;
+        self.left = self.template.len();
         self.cut_told = true;
-        Piece {
-            kind: Kind::Cut,
-            span: Span { start, end },
-            text,
-            value: None,
-        }
+        let len = self.left - self.offset;
+        self.take_step(Step::plain(Kind::Cut, len, self.state, self.pending))
     }
 
     // Tells an ending, which is kept.
@@ -123,8 +113,7 @@ impl<'t> Reading<'t> {
         ensures view { view self.new ≡ record { core = (view self.old).core; place = (view self.old).place; balance = self.old.balance; told = already ending } }
     {
         self.told = Some(ending);
-        ending?;
-        Ok(None)
+        ending.map(|()| None)
     }
 
     // A fault at its place.

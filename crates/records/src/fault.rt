@@ -15,7 +15,7 @@ pub enum RecordFault {
 }
 
 impl RecordFault {
-    // The fault's number, by which C and the recorded answers know it.
+    // The refusal's number: the rules of this project give each one (docs/RULES.md), whatever the enum's order.
     pub fn number(self) -> u32
         ensures { result ≡ number_of self }
     {
@@ -46,7 +46,7 @@ impl RecordFault {
     }
 }
 
-// Shown by its name, and where one record is too early, by the record.
+// Shown by its name, and where one record is too early, by the record; by hand, since a derive would state no text.
 impl fmt::Display for RecordFault {
     ghost output = { λ f. Some (fault_text f) };
 

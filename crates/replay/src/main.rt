@@ -61,6 +61,7 @@ fn replay_line(heap: Global, line: &str) -> anyhow::Result<Outcome> {
 fn run(rt: &(impl AllocGlobal + Input + Print)) -> anyhow::Result<()> {
     let mut input = Vec::new(rt.alloc());
     rt.reader().read_to_end(&mut input)?;
+    // counted by hand: a line may end the run, and an unknown one is printed, so a fold would be no plainer
     let (mut agreed, mut signs, mut unknown) = (0u64, 0u64, 0u64);
     for line in std::str::from_utf8(input.as_slice())?.lines() {
         match replay_line(rt.alloc(), line)? {

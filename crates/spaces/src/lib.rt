@@ -138,30 +138,30 @@ impl<'s> CharSet for White<'s> {
     }
 }
 
-// The characters of the ranges other than CR and LF.
+// The characters of a set of ranges other than CR and LF.
 #[derive(Clone, Copy, Debug, PartialEq, Eq)]
 pub struct InlineWhite<'s> {
-    pub ranges: &'s [CodeRange],
+    pub white: White<'s>,
 }
 
 impl InlineWhite<'static> {
     // White_Space other than CR and LF.
     pub fn new() -> InlineWhite<'static>
-        ensures { result.ranges.now ≡ white_space }
+        ensures { result.white.ranges.now ≡ white_space }
     {
         InlineWhite {
-            ranges: White::new().ranges,
+            white: White::new(),
         }
     }
 }
 
 impl<'s> CharSet for InlineWhite<'s> {
-    ghost has = { λ w. in_line w.ranges.now };
+    ghost has = { λ w. in_line w.white.ranges.now };
 
     fn contains(&self, c: char) -> bool {
         match c {
             '\r' | '\n' => false,
-            _ => in_ranges(self.ranges, c),
+            _ => self.white.contains(c),
         }
     }
 }
@@ -238,7 +238,7 @@ pub fn blank_run(s: &[u8]) -> usize
         .unwrap_or(s.len())
 }
 
-// How many bytes CR LF, LF or CR at the front has: a length that callers add, 0 where none of them stands there.
+// How many bytes CR LF, LF or CR at the front has, 0 where none of them stands there: two callers add it and two test it for 0, which an `Option` would make no plainer.
 pub fn line_end(s: &[u8]) -> usize
     ensures value { result ≡ line_end s.now }
     ensures told { LineEnd s.now result }

@@ -1,4 +1,5 @@
 // Strips: the white space that is left out of text before an opening.
+// Each length says for itself that it lies in its text: callers' arithmetic does not read that off its value.
 
 #![tactic(auto)]
 
@@ -27,7 +28,7 @@ fn trim_end_matches<C: CharSet>(text: &[u8], set: &C) -> usize
 }
 
 // How many bytes of a text are left when the white space at its end is taken off.
-// This and the next are the two sets in use, told without the ranges behind them: what both do is said once, above.
+// This and the next are the two sets in use: the body and its laws stand once, above; their contracts name the sets, which a generic one could not.
 pub fn trim_end(text: &[u8]) -> usize
     ensures value { result ≡ kept (in_ranges white_space) text.now }
     ensures within { result ≤ length text.now }

@@ -17,7 +17,7 @@ pub enum SyntaxFault {
 }
 
 impl SyntaxFault {
-    // The refusal's number, by which C and the recorded answers know it.
+    // The refusal's number: the rules of this project give each one (docs/RULES.md), whatever the enum's order.
     pub fn number(self) -> u32
         ensures { result ≡ (told self).number }
     {
@@ -52,7 +52,7 @@ impl SyntaxFault {
     }
 }
 
-// Shown by the delimiter's name and what is wrong with it.
+// Shown by the delimiter's name and what is wrong with it; by hand, since a derive would state no text.
 impl fmt::Display for SyntaxFault {
     ghost output = { λ f. Some (fault_text f) };
 

@@ -11,6 +11,7 @@ use super::whitespace::WhitespaceConfig;
 // Eight delimiters that building has tested, and the whitespace flags.
 #[derive(Clone, Copy, Debug)]
 pub struct Settings {
+    // the draft's array
     pub(crate) delims: [Delimiter; 8],
     pub(crate) whitespace: WhitespaceConfig,
     ghost tested: { passes (table_of delims) ≡ true },

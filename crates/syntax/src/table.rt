@@ -7,15 +7,7 @@ ghost use Rattle.syntax.specs.Names.{required_names, opening_names};
 
 use super::delimiter::Delimiter;
 use super::name::DelimiterName;
-
-// The delimiters that open, in the order in which they are compared: that of `StartMarker::ALL`, as names, since the earlier ones are lent as a slice.
-const OPENINGS: [DelimiterName; 5] = [
-    DelimiterName::VariableStart,
-    DelimiterName::BlockStart,
-    DelimiterName::CommentStart,
-    DelimiterName::LineStatementPrefix,
-    DelimiterName::LineCommentPrefix,
-];
+use finder::StartMarker;
 
 // The delimiter of a name.
 pub(crate) fn entry(delims: &[Delimiter; 8], which: DelimiterName) -> &Delimiter
@@ -45,12 +37,20 @@ fn repeats(delims: &[Delimiter; 8], earlier: &[DelimiterName], name: DelimiterNa
             .any(|other| entry(delims, *other).as_bytes() == bytes)
 }
 
+// The delimiters that open, in the order in which they are compared.
+fn opening_names() -> [DelimiterName; 5]
+    ensures { result ≡ opening_names }
+{
+    StartMarker::ALL.map(DelimiterName::from)
+}
+
 // The first opening that equals an earlier one.
 pub(crate) fn first_equal(delims: &[Delimiter; 8]) -> Option<DelimiterName>
     ensures { result ≡ first_equal (table_of delims.now) [] opening_names }
 {
-    for (i, name) in OPENINGS.iter().enumerate() {
-        if repeats(delims, &OPENINGS[..i], *name) {
+    let names = opening_names();
+    for (i, name) in names.iter().enumerate() {
+        if repeats(delims, &names[..i], *name) {
             return Some(*name);
         }
     }

@@ -86,7 +86,7 @@ fn show<F: Finder>(rt: &impl Print, mut reader: Reader, finder: &F) -> io::Resul
     }
 }
 
-// Opens a template, or an expression where the line's field, which is passed on as it stands, says so.
+// Opens a template, or an expression where the line's field says so: read here and nowhere else, so an enum would be matched once more.
 fn open<'t>(settings: &Settings, mode: &str, template: &'t [u8]) -> Result<Reader<'t>, OpenFault> {
     let mut reader = Reader::new(settings);
     match mode {
@@ -96,8 +96,8 @@ fn open<'t>(settings: &Settings, mode: &str, template: &'t [u8]) -> Result<Reade
     Ok(reader)
 }
 
-// Answers one line. `locate` reads its delimiters and tells their refusals in the same lines: shared, they would need a crate, contracts and edits, which are
-// longer than they are.
+// Answers one line. `locate` reads fields and delimiters, tells their refusals and runs over its lines in the same words: shared, each of these would be a public function,
+// which a rule of the project wants with a contract and an edit of its own, and what is printed has no contract.
 fn answer(rt: &(impl AllocGlobal + Print), line: &str) -> anyhow::Result<()> {
     let mut draft = Draft::new();
     let mut rest = line;

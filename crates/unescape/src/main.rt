@@ -44,7 +44,7 @@ fn run(rt: &(impl Alloc + Env + Input + Print)) -> anyhow::Result<()> {
     let mut room = vec![in rt.alloc(); 0; room_or(rt, input.len())?]?;
     let mut rest = input.as_slice();
     let (mut texts, mut decoded) = (0u64, 0u64);
-    // by `next_line`, whose contract says which lines there are
+    // By `next_line`, whose contract says which lines there are; each is printed and counted as it comes, so a chain with a fold would be no plainer.
     while !rest.is_empty() {
         let (text, more) = next_line(rest);
         rest = more;

@@ -22,6 +22,7 @@ pub struct NotUtf8 {
     pub byte: usize,
 }
 
+// By hand, as all refusals are: a derive of `thiserror` would state no text.
 impl fmt::Display for NotUtf8 {
     ghost output = { λ e. Some (not_utf8_text e) };
 

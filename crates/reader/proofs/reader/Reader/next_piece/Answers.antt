@@ -7,17 +7,11 @@ use Rattle.reader.proofs.Streams.{reader_ends}
 use Rattle.reader.proofs.Tells.{same_tell, told_now}
 use Rattle.reader.proofs.reader.Reader.next_piece.Goals as goal
 
-pub returns-in_ok-ending-in-Some-clause-ends : goal.returns-in_ok-ending-in-Some-clause-ends
-returns-in_ok-ending-in-Some-clause-ends g c = reader_ends c.args.self.now
+pub returns-in-Some-clause-ends : goal.returns-in-Some-clause-ends
+returns-in-Some-clause-ends g c = reader_ends c.args.self.now
 
-pub returns-in_ok-ending-in-Some-clause-real : goal.returns-in_ok-ending-in-Some-clause-real
-returns-in_ok-ending-in-Some-clause-real g c = none_passed c.args.self.now.settings
-
-pub returns-in_err-ending-in-Some-clause-ends : goal.returns-in_err-ending-in-Some-clause-ends
-returns-in_err-ending-in-Some-clause-ends g c = reader_ends c.args.self.now
-
-pub returns-in_err-ending-in-Some-clause-real : goal.returns-in_err-ending-in-Some-clause-real
-returns-in_err-ending-in-Some-clause-real g c = none_passed c.args.self.now.settings
+pub returns-in-Some-clause-real : goal.returns-in-Some-clause-real
+returns-in-Some-clause-real g c = none_passed c.args.self.now.settings
 
 pub returns-in-None : goal.returns-in-None
 returns-in-None g c =

@@ -19,8 +19,8 @@ returns-in-Ok-Some c =
       view = piece_after r.template.now r.left r.offset r.state r.pending r.cut_told r.balance r.told s (view c.take_step.new.self) h c.requires.untold c.take_step.ensures.view ∙ ap (λ x. x.after) g;
     }
 
-pub take_cut-requires : goal.take_cut-requires
-take_cut-requires c =
+pub take_cut-requires-clause-here : goal.take_cut-requires-clause-here
+take_cut-requires-clause-here c =
     let r = c.args.self.now in
     let i = r.inside in
     at_end r.left r.offset r.state r.pending c.args.verdict (search rules) c.requires.fits (omega arith)
