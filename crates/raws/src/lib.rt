@@ -5,6 +5,7 @@
 ghost use Rattle.std.specs.Prelude.{◌≡◌, ◌+◌, ◌≤◌, length, take, drop};
 ghost use Rattle.rules.specs.Config.{config_of};
 ghost use Rattle.rules.specs.Cursors.{config_at, behind, ahead};
+ghost use Rattle.rules.specs.State.{verdict_of};
 ghost use Rattle.rules.specs.Texts.{basic_end, basic_tag, closer_at, find_closer, raw_from, raw_text_by, raw_body};
 ghost use Rattle.raws.specs.Closers.{Within, TagWithin, FarWithin, TagSpelt, CloserSpelt, FirstCloser, RawEnds};
 ghost use Rattle.raws.specs.Waiting.{Inside};
@@ -12,7 +13,7 @@ ghost use Rattle.raws.specs.Waiting.{Inside};
 use byte_search::{after, memstr, starts_with_bytes, until};
 use finder::StartMarker;
 use pieces::{FaultKind, Kind};
-use rules::{Cursor, EndRaw, Fault, LexerState, Pending, Step, Verdict, Whitespace};
+use rules::{Cursor, EndRaw, Fault, LexerState, Pending, Step, Whitespace};
 use spaces::{blank_run, line_end};
 use strips::{left_before, skip_whitespace};
 use syntax::{DelimiterName, Settings};
@@ -22,17 +23,8 @@ fn basic_end(rest: &[u8], at: usize, block_end: &[u8]) -> Option<(usize, Whitesp
     ensures value { result ≡ basic_end block_end.now at (drop at rest.now) }
     ensures within { Within at rest.now result }
 {
-    let tail = after(rest, at);
-    match tail {
-        [] => None,
-        [sign @ (b'-' | b'+'), behind @ ..] if starts_with_bytes(behind, block_end) => {
-            Some((at + 1 + block_end.len(), Whitespace::from_byte(*sign)))
-        }
-        _ if starts_with_bytes(tail, block_end) => {
-            Some((at + block_end.len(), Whitespace::Default))
-        }
-        _ => None,
-    }
+    let (len, ws) = Whitespace::signed_end(after(rest, at), block_end)?;
+    Some((at + len, ws))
 }
 
 // A tag of a raw block behind its start and sign: blanks, the name, blanks, an optional sign and the block end. How many bytes it has, and the sign.
@@ -133,15 +125,15 @@ fn raw_text(here: &Cursor, ws: Whitespace, distance: usize, tag: EndRaw) -> Step
 
 // The body of a raw block whose tag has this sign at its end.
 #[tactic(auto, using(crate::proofs::Bodies::body_none, crate::proofs::Bodies::body_some))]
-pub fn handle_raw_tag(here: &Cursor, ws: Whitespace) -> Verdict
-    ensures value { result ≡ raw_body (config_at here.now) ws (behind here.now) (ahead here.now) }
-    ensures first { RawEnds (config_at here.now) (ahead here.now) result }
-    ensures inside { Inside (length (ahead here.now)) result }
+pub fn handle_raw_tag(here: &Cursor, ws: Whitespace) -> Result<Step, Fault>
+    ensures value { verdict_of result ≡ raw_body (config_at here.now) ws (behind here.now) (ahead here.now) }
+    ensures first { RawEnds (config_at here.now) (ahead here.now) (verdict_of result) }
+    ensures inside { Inside (length (ahead here.now)) (verdict_of result) }
 {
     let rest = here.ahead();
     let (distance, tag) = find_end_raw(here.settings, rest).ok_or(Fault {
         kind: FaultKind::UnendedRaw,
         distance: rest.len(),
     })?;
-    Ok(Some(raw_text(here, ws, distance, tag)))
+    Ok(raw_text(here, ws, distance, tag))
 }

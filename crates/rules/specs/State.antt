@@ -21,6 +21,11 @@ pub record Core : Type 0 where
 abbrev pub Verdict : Type 0
 Verdict = Result (Option Step) Fault
 
+-- a piece or what is wrong, as a verdict
+abbrev pub verdict_of : Result Step Fault → Verdict
+verdict_of (Ok p) = Ok (Some p)
+verdict_of (Err f) = Err f
+
 -- this is wrong, which is seen so many bytes ahead
 abbrev pub fault : FaultKind → ℕ → Verdict
 fault k d = Err (record { kind = k; distance = d })

@@ -1,4 +1,3 @@
 pub mod Names
 pub mod Balances
-pub mod Ends
 pub mod Tag

@@ -4,10 +4,9 @@ ghost use Rattle.rules.specs.Cursors.{config_at, ahead};
 ghost use Rattle.rules.specs.Tags.{end_of, trim_by, closing as closing_at, closes as closes_at, is_zero, close as close_at, line_rest, statement_end};
 ghost use Rattle.spaces.specs.Runs.{white_run};
 ghost use Rattle.spaces.specs.Spaces.{white_space, in_line};
-ghost use Rattle.tags.specs.Ends.{signed_end};
 
 use super::tag::Tag;
-use byte_search::{after, starts_with_bytes};
+use byte_search::after;
 use pieces::Kind;
 use rules::{BlockSentinel, LexerState, Pending, Step, Whitespace};
 use signs::handle_tail_ws;
@@ -21,16 +20,6 @@ fn trim_by(ws: Whitespace) -> Pending
     match ws {
         Whitespace::Remove => Pending::Trim,
         Whitespace::Preserve | Whitespace::Default => Pending::Nothing,
-    }
-}
-
-// Whether a sign stands at the front, and the end behind it.
-fn signed_end(end: &[u8], rest: &[u8]) -> bool
-    ensures { result ≡ signed_end end.now rest.now }
-{
-    match rest {
-        [b'-' | b'+', behind @ ..] => starts_with_bytes(behind, end),
-        _ => false,
     }
 }
 
@@ -89,14 +78,8 @@ impl<'s> Tag<'s> {
     fn closes(&self, end: &[u8]) -> Option<Step>
         ensures { option_map (λ p. ok (just p)) result ≡ at_tag (λ s bs k b x xs. closes_at s k end.now x xs) self.now }
     {
-        let rest = self.here.ahead();
-        if signed_end(end, rest) {
-            return Some(self.closing(Whitespace::at_front(rest), end.len() + 1));
-        }
-        if starts_with_bytes(rest, end) {
-            return Some(self.closing(Whitespace::Default, end.len()));
-        }
-        None
+        let (len, ws) = Whitespace::signed_end(self.here.ahead(), end)?;
+        Some(self.closing(ws, len))
     }
 
     // The end of the tag at the front, at a balance of exactly 0.

@@ -2,11 +2,12 @@
 ghost use Rattle.std.specs.Prelude.{◌≡◌, ◌<◌, ◌∷◌, length, Ok};
 ghost use Rattle.spaces.specs.Lines.{blank_run};
 ghost use Rattle.rules.specs.Cursors.{config_at, behind, ahead};
+ghost use Rattle.rules.specs.State.{verdict_of};
 ghost use Rattle.rules.specs.Tags.{dot_behind, inside as inside_at, blanks as blanks_at, tag_end, tag_verdict};
 ghost use Rattle.tags.specs.Balances.{Moderate};
 
 use pieces::Kind;
-use rules::{BlockSentinel, Cursor, LexerState, Pending, Step, Verdict};
+use rules::{BlockSentinel, Cursor, Fault, LexerState, Pending, Step, Verdict};
 use spaces::blank_run;
 
 // A place inside a tag, with bytes to come: what the tag was opened by, and the balance of its brackets, which one more keeps in an i64.
@@ -39,22 +40,22 @@ impl<'s> Tag<'s> {
     }
 
     // The end of the tag, else a token.
-    fn inside(&self) -> Verdict
-        ensures { result ≡ at_tag inside_at self.now }
+    fn inside(&self) -> Result<Step, Fault>
+        ensures { verdict_of result ≡ at_tag inside_at self.now }
     {
         match self.close() {
-            Some(step) => Ok(Some(step)),
+            Some(step) => Ok(step),
             None => self.token(),
         }
     }
 
     // ASCII blanks, which are passed over, else the end of the tag or a token.
-    fn blanks(&self) -> Verdict
-        ensures { result ≡ at_tag (λ s bs k b x xs. blanks_at s bs k b x xs (blank_run (x ∷ xs))) self.now }
+    fn blanks(&self) -> Result<Step, Fault>
+        ensures { verdict_of result ≡ at_tag (λ s bs k b x xs. blanks_at s bs k b x xs (blank_run (x ∷ xs))) self.now }
     {
         match blank_run(self.here.ahead()) {
             0 => self.inside(),
-            len => Ok(Some(Step::plain(Kind::White, len, self.state(), Pending::Nothing))),
+            len => Ok(Step::plain(Kind::White, len, self.state(), Pending::Nothing)),
         }
     }
 }
@@ -90,6 +91,6 @@ pub fn tokenize_block_or_var(here: &Cursor, sentinel: BlockSentinel, balance: i6
             let state = LexerState::Template;
             Ok(Some(Step::plain(Kind::BlockEnd, len, state, Pending::Nothing)))
         }
-        None => tag.blanks(),
+        None => tag.blanks().map(Some),
     }
 }

@@ -4,27 +4,26 @@ ghost use Rattle.pieces.specs.declared.kind.Kind.TheVariants.{Operator as operat
 ghost use Rattle.pieces.specs.Kinds.{operator_text};
 ghost use Rattle.rules.specs.declared.LexerState.TheVariants.{Inside as inside};
 ghost use Rattle.rules.specs.declared.Pending.TheVariants.{Nothing as idle};
-ghost use Rattle.rules.specs.State.{plain};
+ghost use Rattle.rules.specs.State.{plain, verdict_of};
 ghost use Rattle.rules.specs.Tags.{literal as literal_at, token as token_at, weight as weight_of};
 ghost use Rattle.tags.specs.Names.{named};
 
 use super::tag::Tag;
 use numbers::eat_number;
 use pieces::{FaultKind, Kind, Operator};
-use rules::{Fault, LexerState, Pending, Step, Verdict};
+use rules::{Fault, LexerState, Pending, Step};
 use words::{eat_string, lex_identifier, operator, weight};
 
-// An identifier; else no token begins here.
-fn eat_identifier(rest: &[u8], state: LexerState) -> Verdict
-    ensures { result ≡ named state rest.now }
+// An identifier; else no token begins here. The state behind it is the caller's, and is handed on as it is.
+fn eat_identifier(rest: &[u8], state: LexerState) -> Result<Step, Fault>
+    ensures { verdict_of result ≡ named state rest.now }
 {
-    match lex_identifier(rest) {
-        0 => Err(Fault {
+    lex_identifier(rest)
+        .map(|len| Step::plain(Kind::Ident, len, state, Pending::Nothing))
+        .ok_or(Fault {
             kind: FaultKind::NoToken,
             distance: 0,
-        }),
-        len => Ok(Some(Step::plain(Kind::Ident, len, state, Pending::Nothing))),
-    }
+        })
 }
 
 impl<'s> Tag<'s> {
@@ -32,8 +31,8 @@ impl<'s> Tag<'s> {
 
     // A string, a number or an identifier; else no token begins here.
     #[tactic(auto, unfolding(rules::specs::Tags::literal))]
-    fn literal(&self) -> Verdict
-        ensures { result ≡ at_tag (λ s bs k b x xs. literal_at bs (inside k b) x xs) self.now }
+    fn literal(&self) -> Result<Step, Fault>
+        ensures { verdict_of result ≡ at_tag (λ s bs k b x xs. literal_at bs (inside k b) x xs) self.now }
     {
         let rest = self.here.ahead();
         match rest {
@@ -53,11 +52,11 @@ impl<'s> Tag<'s> {
     }
 
     // An operator, else a literal.
-    pub fn token(&self) -> Verdict
-        ensures { result ≡ at_tag (λ s. token_at) self.now }
+    pub fn token(&self) -> Result<Step, Fault>
+        ensures { verdict_of result ≡ at_tag (λ s. token_at) self.now }
     {
         match operator(self.here.ahead()) {
-            Some(operator) => Ok(Some(self.operated(operator))),
+            Some(operator) => Ok(self.operated(operator)),
             None => self.literal(),
         }
     }

@@ -9,7 +9,7 @@ ghost use Rattle.std.specs.Prelude.{◌≡◌, ◌+◌, ◌≤◌, length, Some}
 ghost use Rattle.rules.specs.Bytes.{sign_len};
 ghost use Rattle.rules.specs.Cursors.{config_at, behind, ahead};
 ghost use Rattle.rules.specs.Shapes.{held};
-ghost use Rattle.rules.specs.State.{plain};
+ghost use Rattle.rules.specs.State.{plain, verdict_of};
 ghost use Rattle.rules.specs.Texts.{gap_then, lead_then, opening_sign, met, real, text as text_told, trimmed as trimmed_told, text_verdict};
 ghost use Rattle.raws.specs.Waiting.{Inside};
 
@@ -17,24 +17,24 @@ use byte_search::after;
 use finder::{Finder, StartMarker};
 use pieces::Kind;
 use raws::handle_raw_tag;
-use rules::{Cursor, LexerState, Pending, Step, Verdict, Whitespace};
+use rules::{Cursor, Fault, LexerState, Pending, Step, Verdict, Whitespace};
 use signs::handle_tail_ws;
 pub use start::Start;
 use strips::{lead, skip_whitespace};
 
 // White space before an opening, if there is any, then the opening. Distance, marker and length go as a finder tells them, which is a rule of the project.
-fn gap_then(here: &Cursor, gap: usize, marker: StartMarker, len: usize) -> Verdict
+fn gap_then(here: &Cursor, gap: usize, marker: StartMarker, len: usize) -> Result<Step, Fault>
     requires { gap + len ≤ length (ahead here.now) }
-    ensures value { result ≡ gap_then (config_at here.now) gap marker len (ahead here.now) }
-    ensures inside { Inside (length (ahead here.now)) result }
+    ensures value { verdict_of result ≡ gap_then (config_at here.now) gap marker len (ahead here.now) }
+    ensures inside { Inside (length (ahead here.now)) (verdict_of result) }
 {
     if gap > 0 {
-        return Ok(Some(Step::plain(
+        return Ok(Step::plain(
             Kind::White,
             gap,
             LexerState::Template,
             Pending::Marker(0, marker, len),
-        )));
+        ));
     }
     let start = Start {
         rest: here.ahead(),
@@ -50,20 +50,20 @@ fn lead_then(
     distance: usize,
     marker: StartMarker,
     len: usize,
-) -> Verdict
+) -> Result<Step, Fault>
     requires text { lead ≤ distance }
     requires opening { distance + len ≤ length (ahead here.now) }
-    ensures value { result ≡ lead_then (config_at here.now) lead distance marker len (ahead here.now) }
-    ensures inside { Inside (length (ahead here.now)) result }
+    ensures value { verdict_of result ≡ lead_then (config_at here.now) lead distance marker len (ahead here.now) }
+    ensures inside { Inside (length (ahead here.now)) (verdict_of result) }
 {
     match lead {
         0 => gap_then(here, distance, marker, len),
-        _ => Ok(Some(Step::plain(
+        _ => Ok(Step::plain(
             Kind::Text,
             lead,
             LexerState::Template,
             Pending::Marker(distance - lead, marker, len),
-        ))),
+        )),
     }
 }
 
@@ -91,13 +91,13 @@ fn all_text(here: &Cursor) -> Step
 }
 
 // Text to an opening of so many bytes that was found so far ahead; one of no bytes opens nothing, and all that is left is text.
-fn meet(here: &Cursor, distance: usize, marker: StartMarker, len: usize) -> Verdict
+fn meet(here: &Cursor, distance: usize, marker: StartMarker, len: usize) -> Result<Step, Fault>
     requires { distance + len ≤ length (ahead here.now) }
-    ensures value { result ≡ met (config_at here.now) (behind here.now) (ahead here.now) (real (Some (distance, marker, len))) }
-    ensures inside { Inside (length (ahead here.now)) result }
+    ensures value { verdict_of result ≡ met (config_at here.now) (behind here.now) (ahead here.now) (real (Some (distance, marker, len))) }
+    ensures inside { Inside (length (ahead here.now)) (verdict_of result) }
 {
     if len == 0 {
-        return Ok(Some(all_text(here)));
+        return Ok(all_text(here));
     }
     let ws = opening_sign(marker, after(here.ahead(), distance + len));
     let text = lead(here, distance, marker, ws);
@@ -116,7 +116,7 @@ fn text<F: Finder>(here: &Cursor, finder: &F) -> Verdict
     let Some((distance, marker, len)) = finder.find(here.source, here.offset) else {
         return Ok(Some(all_text(here)));
     };
-    meet(here, distance, marker, len)
+    meet(here, distance, marker, len).map(Some)
 }
 
 // White space that was ordered to be trimmed, if there is any, else text.
@@ -147,8 +147,8 @@ pub fn tokenize_root<F: Finder>(here: &Cursor, finder: &F, pending: Pending) -> 
             LexerState::Template,
             Pending::Nothing,
         ))),
-        Pending::Marker(gap, marker, len) => gap_then(here, gap, marker, len),
-        Pending::RawBody(ws) => handle_raw_tag(here, ws),
+        Pending::Marker(gap, marker, len) => gap_then(here, gap, marker, len).map(Some),
+        Pending::RawBody(ws) => handle_raw_tag(here, ws).map(Some),
         Pending::RawClose(len, ws) => Ok(Some(Step::plain(
             Kind::RawClose,
             len,

@@ -2,7 +2,7 @@
 ghost use Rattle.std.specs.Prelude.{◌≡◌, ◌+◌, ◌≤◌, length, drop, pos};
 ghost use Rattle.rules.specs.Bytes.{in_line, run, LongestRun};
 ghost use Rattle.rules.specs.Config.{config_of};
-ghost use Rattle.rules.specs.State.{plain};
+ghost use Rattle.rules.specs.State.{plain, verdict_of};
 ghost use Rattle.rules.specs.Texts.{closing_sign, comment, line_comment_here, raw_name, basic_tag, block_by, opened};
 ghost use Rattle.texts.specs.Gaps.{CommentEnds, LineEnds};
 ghost use Rattle.raws.specs.Waiting.{Inside};
@@ -11,7 +11,7 @@ use byte_search::{after, memchr_any, memstr, until};
 use finder::StartMarker;
 use pieces::{FaultKind, Kind};
 use raws::skip_basic_tag;
-use rules::{BlockSentinel, Fault, LexerState, Pending, Step, Verdict, Whitespace};
+use rules::{BlockSentinel, Fault, LexerState, Pending, Step, Whitespace};
 use signs::handle_tail_ws;
 use spaces::line_end;
 use syntax::{DelimiterName, Settings};
@@ -35,7 +35,8 @@ fn line_len(rest: &[u8]) -> usize
     memchr_any(rest, [b'\r', b'\n']).unwrap_or(rest.len())
 }
 
-// An opening that stands in front, which has so many bytes with its sign.
+// An opening that stands in front, which has so many bytes with its sign. It keeps the bytes from its own first on, and not those behind it alone, since pieces
+// and faults are counted from there.
 #[derive(Clone, Copy, Debug)]
 pub struct Start<'s> {
     pub rest: &'s [u8],
@@ -66,10 +67,10 @@ impl<'s> Start<'s> {
 
     // A comment: it runs to its first end behind the opening.
     #[tactic(auto, using(rules::proofs::Inside::tail_fine), unfolding(rules::specs::Texts::comment))]
-    pub fn comment(&self, settings: &Settings) -> Verdict
-        ensures value { result ≡ comment (config_of settings.now) self.now.len self.now.rest.now }
-        ensures ends { CommentEnds (config_of settings.now).comment_end self.now.len self.now.rest.now result }
-        ensures inside { Inside (length self.now.rest.now) result }
+    pub fn comment(&self, settings: &Settings) -> Result<Step, Fault>
+        ensures value { verdict_of result ≡ comment (config_of settings.now) self.now.len self.now.rest.now }
+        ensures ends { CommentEnds (config_of settings.now).comment_end self.now.len self.now.rest.now (verdict_of result) }
+        ensures inside { Inside (length self.now.rest.now) (verdict_of result) }
     {
         let body = self.behind();
         let comment_end = settings.delimiter(DelimiterName::CommentEnd);
@@ -80,7 +81,7 @@ impl<'s> Start<'s> {
         let len = self.len + end + comment_end.len();
         let sign = closing_sign(body, end);
         let pending = handle_tail_ws(settings, sign, after(self.rest, len));
-        Ok(Some(Step::plain(Kind::Comment, len, LexerState::Template, pending)))
+        Ok(Step::plain(Kind::Comment, len, LexerState::Template, pending))
     }
 
     // A line comment: it takes the rest of its line, and the line's end.
@@ -119,9 +120,13 @@ impl<'s> Start<'s> {
 
     // What it opens.
     #[tactic(auto, unfolding(rules::specs::Texts::opened))]
-    pub fn handle_start_marker(&self, settings: &Settings, marker: StartMarker) -> Verdict
-        ensures value { result ≡ opened (config_of settings.now) marker self.now.len self.now.rest.now }
-        ensures inside { Inside (length self.now.rest.now) result }
+    pub fn handle_start_marker(
+        &self,
+        settings: &Settings,
+        marker: StartMarker,
+    ) -> Result<Step, Fault>
+        ensures value { verdict_of result ≡ opened (config_of settings.now) marker self.now.len self.now.rest.now }
+        ensures inside { Inside (length self.now.rest.now) (verdict_of result) }
     {
         let step = match marker {
             StartMarker::Variable => self.tag(Kind::VariableStart, BlockSentinel::Variable),
@@ -130,6 +135,6 @@ impl<'s> Start<'s> {
             StartMarker::LineStatement => self.tag(Kind::BlockStart, BlockSentinel::LineStatement),
             StartMarker::LineComment => self.line_comment(),
         };
-        Ok(Some(step))
+        Ok(step)
     }
 }

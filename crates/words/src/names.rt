@@ -1,8 +1,8 @@
 // Identifiers.
-ghost use Rattle.std.specs.Prelude.{◌≡◌, true, slice_index};
+ghost use Rattle.std.specs.Prelude.{◌≡◌};
 ghost use Rattle.std.specs.List.{prefix_len};
-ghost use Rattle.rules.specs.Bytes.{leads_name, is_name_part, LongestRun};
-ghost use Rattle.words.specs.Names.{ident_len};
+ghost use Rattle.rules.specs.Bytes.{leads_name, is_name_part};
+ghost use Rattle.words.specs.Names.{ident_len, some_len, FirstName};
 
 // Whether an identifier may begin with `b`: an ASCII letter or `_`.
 fn is_lead(b: u8) -> bool
@@ -25,13 +25,14 @@ fn part_run(rest: &[u8]) -> usize
     rest.iter().take_while(|b| is_part(**b)).count()
 }
 
-// How many bytes the identifier at the front has; as in the original 0, the length of none, where none begins there.
-pub fn lex_identifier(rest: &[u8]) -> usize
-    ensures value { result ≡ ident_len rest.now }
-    ensures longest { leads_name (slice_index rest.now 0) ≡ true → LongestRun is_name_part rest.now result }
+// How many bytes the identifier at the front has, if one begins there.
+#[tactic(auto, using(crate::proofs::Runs::name_value))]
+pub fn lex_identifier(rest: &[u8]) -> Option<usize>
+    ensures value { result ≡ some_len (ident_len rest.now) }
+    ensures longest { FirstName rest.now result }
 {
     match rest {
-        [b, ..] if is_lead(*b) => part_run(rest),
-        _ => 0,
+        [b, ..] if is_lead(*b) => Some(part_run(rest)),
+        _ => None,
     }
 }

@@ -1,7 +1,7 @@
 // Strings.
 ghost use Rattle.std.specs.Prelude.{◌≡◌, ◌+◌, false, length, Some, Ok};
 ghost use Rattle.rules.specs.declared.Pending.TheVariants.{Nothing as idle};
-ghost use Rattle.rules.specs.State.{told};
+ghost use Rattle.rules.specs.State.{told, verdict_of};
 ghost use Rattle.byte_search.specs.Search.{First};
 ghost use Rattle.rules.specs.Strings.{quote_end, string_of, string as string_at};
 ghost use Rattle.words.specs.Quotes.{Closes};
@@ -9,7 +9,7 @@ ghost use Rattle.words.specs.Quotes.{Closes};
 use byte_search::{memchr, until};
 use decode::decoded_len;
 use pieces::{FaultKind, Kind};
-use rules::{Fault, LexerState, Pending, Step, Verdict};
+use rules::{Fault, LexerState, Pending, Step};
 
 // How far the next quote is that no backslash escapes.
 pub fn quote_end(quote: u8, rest: &[u8]) -> Option<usize>
@@ -39,23 +39,23 @@ fn quoted(kind: Kind, text: &[u8], value: Option<u64>, state: LexerState) -> Ste
 }
 
 // The string of this text: with a backslash the decoder decides.
-fn string_of(text: &[u8], state: LexerState) -> Verdict
-    ensures { result ≡ string_of state text.now }
+fn string_of(text: &[u8], state: LexerState) -> Result<Step, Fault>
+    ensures { verdict_of result ≡ string_of state text.now }
 {
     if memchr(text, b'\\').is_none() {
-        return Ok(Some(quoted(Kind::Str, text, None, state)));
+        return Ok(quoted(Kind::Str, text, None, state));
     }
     let len = decoded_len(text).map_err(|fault| Fault {
         kind: FaultKind::from(fault),
         distance: text.len() + 2,
     })?;
-    Ok(Some(quoted(Kind::String, text, Some(len as u64), state)))
+    Ok(quoted(Kind::String, text, Some(len as u64), state))
 }
 
-// The string that a quote opens, with these bytes behind the quote.
+// The string that a quote opens, with these bytes behind the quote. The state behind the string is the caller's, and is handed on as it is.
 #[tactic(auto, unfolding(rules::specs::Strings::string))]
-pub fn eat_string(quote: u8, rest: &[u8], state: LexerState) -> Verdict
-    ensures { result ≡ string_at quote state rest.now }
+pub fn eat_string(quote: u8, rest: &[u8], state: LexerState) -> Result<Step, Fault>
+    ensures { verdict_of result ≡ string_at quote state rest.now }
 {
     let unended = Fault {
         kind: FaultKind::UnendedString,
