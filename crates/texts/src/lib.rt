@@ -22,51 +22,6 @@ use signs::handle_tail_ws;
 pub use start::Start;
 use strips::{lead, skip_whitespace};
 
-// White space before an opening, if there is any, then the opening. Distance, marker and length go as a finder tells them, which is a rule of the project.
-fn gap_then(here: &Cursor, gap: usize, marker: StartMarker, len: usize) -> Result<Step, Fault>
-    requires { gap + len ≤ length (ahead here.now) }
-    ensures value { verdict_of result ≡ gap_then (config_at here.now) gap marker len (ahead here.now) }
-    ensures inside { Inside (length (ahead here.now)) (verdict_of result) }
-{
-    if gap > 0 {
-        return Ok(Step::plain(
-            Kind::White,
-            gap,
-            LexerState::Template,
-            Pending::Marker(0, marker, len),
-        ));
-    }
-    let start = Start {
-        rest: here.ahead(),
-        len,
-    };
-    start.handle_start_marker(here.settings, marker)
-}
-
-// The text before an opening, `lead` of `distance` bytes, if there is any, then the white space.
-fn lead_then(
-    here: &Cursor,
-    lead: usize,
-    distance: usize,
-    marker: StartMarker,
-    len: usize,
-) -> Result<Step, Fault>
-    requires text { lead ≤ distance }
-    requires opening { distance + len ≤ length (ahead here.now) }
-    ensures value { verdict_of result ≡ lead_then (config_at here.now) lead distance marker len (ahead here.now) }
-    ensures inside { Inside (length (ahead here.now)) (verdict_of result) }
-{
-    match lead {
-        0 => gap_then(here, distance, marker, len),
-        _ => Ok(Step::plain(
-            Kind::Text,
-            lead,
-            LexerState::Template,
-            Pending::Marker(distance - lead, marker, len),
-        )),
-    }
-}
-
 // The sign behind an opening: a line statement has none.
 fn opening_sign(marker: StartMarker, rest: &[u8]) -> Whitespace
     ensures value { result ≡ opening_sign marker rest.now }
@@ -90,18 +45,75 @@ fn all_text(here: &Cursor) -> Step
     )
 }
 
-// Text to an opening of so many bytes that was found so far ahead; one of no bytes opens nothing, and all that is left is text.
-fn meet(here: &Cursor, distance: usize, marker: StartMarker, len: usize) -> Result<Step, Fault>
-    requires { distance + len ≤ length (ahead here.now) }
-    ensures value { verdict_of result ≡ met (config_at here.now) (behind here.now) (ahead here.now) (real (Some (distance, marker, len))) }
-    ensures inside { Inside (length (ahead here.now)) (verdict_of result) }
-{
-    if len == 0 {
-        return Ok(all_text(here));
+// An opening that lies so far ahead: what it opens, and how many bytes it has.
+#[derive(Clone, Copy, Debug)]
+struct Opening<'s> {
+    here: Cursor<'s>,
+    distance: usize,
+    marker: StartMarker,
+    len: usize,
+    ghost within: { distance + len ≤ length (ahead here) },
+}
+
+impl<'s> Opening<'s> {
+    // White space before it, if there is any, then what it opens.
+    fn gap_then(&self) -> Result<Step, Fault>
+        ensures value { verdict_of result ≡ gap_then (config_at self.now.here) self.now.distance self.now.marker self.now.len (ahead self.now.here) }
+        ensures inside { Inside (length (ahead self.now.here)) (verdict_of result) }
+    {
+        if self.distance > 0 {
+            return Ok(Step::plain(
+                Kind::White,
+                self.distance,
+                LexerState::Template,
+                Pending::Marker(0, self.marker, self.len),
+            ));
+        }
+        let start = Start {
+            rest: self.here.ahead(),
+            len: self.len,
+        };
+        start.handle_start_marker(self.here.settings, self.marker)
     }
-    let ws = opening_sign(marker, after(here.ahead(), distance + len));
-    let text = lead(here, distance, marker, ws);
-    lead_then(here, text, distance, marker, len + ws.len())
+
+    // The text before it, so many bytes, if there is any, then the white space.
+    fn lead_then(&self, text: usize) -> Result<Step, Fault>
+        requires { text ≤ self.now.distance }
+        ensures value { verdict_of result ≡ lead_then (config_at self.now.here) text self.now.distance self.now.marker self.now.len (ahead self.now.here) }
+        ensures inside { Inside (length (ahead self.now.here)) (verdict_of result) }
+    {
+        match text {
+            0 => self.gap_then(),
+            _ => Ok(Step::plain(
+                Kind::Text,
+                text,
+                LexerState::Template,
+                Pending::Marker(self.distance - text, self.marker, self.len),
+            )),
+        }
+    }
+
+    // Text to it, as it was found, with its sign behind it; one of no bytes opens nothing, and all that is left is text.
+    fn meet(&self) -> Result<Step, Fault>
+        ensures value { verdict_of result ≡ met (config_at self.now.here) (behind self.now.here) (ahead self.now.here) (real (Some (self.now.distance, self.now.marker, self.now.len))) }
+        ensures inside { Inside (length (ahead self.now.here)) (verdict_of result) }
+    {
+        if self.len == 0 {
+            return Ok(all_text(&self.here));
+        }
+        let ws = opening_sign(
+            self.marker,
+            after(self.here.ahead(), self.distance + self.len),
+        );
+        let text = lead(&self.here, self.distance, self.marker, ws);
+        let signed = Opening {
+            here: self.here,
+            distance: self.distance,
+            marker: self.marker,
+            len: self.len + ws.len(),
+        };
+        signed.lead_then(text)
+    }
 }
 
 // Text to the next opening; with none it is all that is left.
@@ -116,7 +128,13 @@ fn text<F: Finder>(here: &Cursor, finder: &F) -> Verdict
     let Some((distance, marker, len)) = finder.find(here.source, here.offset) else {
         return Ok(Some(all_text(here)));
     };
-    meet(here, distance, marker, len).map(Some)
+    let opening = Opening {
+        here: *here,
+        distance,
+        marker,
+        len,
+    };
+    opening.meet().map(Some)
 }
 
 // White space that was ordered to be trimmed, if there is any, else text.
@@ -147,7 +165,15 @@ pub fn tokenize_root<F: Finder>(here: &Cursor, finder: &F, pending: Pending) -> 
             LexerState::Template,
             Pending::Nothing,
         ))),
-        Pending::Marker(gap, marker, len) => gap_then(here, gap, marker, len).map(Some),
+        Pending::Marker(distance, marker, len) => {
+            let opening = Opening {
+                here: *here,
+                distance,
+                marker,
+                len,
+            };
+            opening.gap_then().map(Some)
+        }
         Pending::RawBody(ws) => handle_raw_tag(here, ws).map(Some),
         Pending::RawClose(len, ws) => Ok(Some(Step::plain(
             Kind::RawClose,
