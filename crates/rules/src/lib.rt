@@ -72,6 +72,7 @@ pub struct Step {
     pub len: usize,
     pub from: usize,
     pub to: usize,
+    // beside the kind, as in a piece
     pub value: Option<u64>,
     pub state: LexerState,
     pub pending: Pending,
