@@ -1,0 +1,60 @@
+-- Rows of pieces, one step at a time.
+use Rattle.std.proofs.Common.{◌≡◌, Bool, true, false, ◌&&◌, List, [], ◌∷◌, sym, refl, ap, ◌∙◌}
+use Rattle.pieces.specs.declared.piece.Piece.{Piece}
+use Rattle.listings.specs.declared.row.Row.{Row}
+use Rattle.listings.specs.Rows.{is_white, row_of, put, joined, starts_white}
+
+pub joined_none : joined [] ≡ []
+unfolding joined
+joined_none = refl
+
+pub joined_more : (p : Piece) (ps : List Piece) → joined (p ∷ ps) ≡ put (row_of p) (joined ps)
+unfolding joined
+joined_more p ps = refl
+
+-- from the start of a row to the end of another
+abbrev reaching : Row → Row → Row
+reaching r s = record { kind = r.kind; span = record { start = r.span.start; end = s.span.end } }
+
+-- two rows, joined or not
+abbrev put_by : Row → Row → List Row → Bool → List Row
+put_by r s rs b = elim b [ true ↦ reaching r s ∷ rs | false ↦ r ∷ s ∷ rs ]
+
+and_false : (a b : Bool) → b ≡ false → (a && b) ≡ false
+and_false true b e = e
+and_false false b e = refl
+
+-- two white rows are one
+put_both : (r s : Row) (rs : List Row) → is_white r.kind ≡ true → is_white s.kind ≡ true → put r (s ∷ rs) ≡ reaching r s ∷ rs
+put_both r s rs e f = ap (λ b. put_by r s rs (b && is_white s.kind)) e ∙ ap (put_by r s rs) f
+
+-- nothing is joined to a row that is not white
+pub put_other : (r : Row) (rs : List Row) → is_white r.kind ≡ false → put r rs ≡ r ∷ rs
+put_other r [] e = refl
+put_other r (s ∷ rs) e = ap (λ b. put_by r s rs (b && is_white s.kind)) e
+
+-- a row that is not white is joined to none
+put_before : (r s : Row) (rs : List Row) → is_white s.kind ≡ false → put r (s ∷ rs) ≡ r ∷ s ∷ rs
+put_before r s rs e = ap (put_by r s rs) (and_false (is_white r.kind) (is_white s.kind) e)
+
+-- where no white piece comes next, nothing is joined
+pub put_stops : (r : Row) (ps : List Piece) → starts_white ps ≡ false → put r (joined ps) ≡ r ∷ joined ps
+unfolding joined
+put_stops r [] e = refl
+put_stops r (p ∷ ps) e =
+    let f : joined (p ∷ ps) ≡ row_of p ∷ joined ps = put_other (row_of p) (joined ps) e in
+    ap (put r) f ∙ put_before r (row_of p) (joined ps) e ∙ ap (λ rs. r ∷ rs) (sym f)
+
+-- a white row takes up a white one behind it, whatever follows
+put_third : (r s t : Row) (rs : List Row) → is_white r.kind ≡ true → is_white s.kind ≡ true → (b : Bool) → is_white t.kind ≡ b → put r (put s (t ∷ rs)) ≡ put (reaching r s) (t ∷ rs)
+put_third r s t rs e f true g = ap (put r) (put_both s t rs f g) ∙ put_both r (reaching s t) rs e f ∙ sym (put_both (reaching r s) t rs e g)
+put_third r s t rs e f false g = ap (put r) (put_before s t rs g) ∙ put_both r s (t ∷ rs) e f ∙ sym (put_before (reaching r s) t rs g)
+
+put_twice : (r s : Row) (rs : List Row) → is_white r.kind ≡ true → is_white s.kind ≡ true → put r (put s rs) ≡ put (reaching r s) rs
+put_twice r s [] e f = put_both r s [] e f
+put_twice r s (t ∷ rs) e f = put_third r s t rs e f (is_white t.kind) refl
+
+-- a white piece that comes next moves the end of a white row
+pub put_white : (r : Row) (p : Piece) (ps : List Piece) → is_white r.kind ≡ true → is_white p.kind ≡ true → put r (joined (p ∷ ps)) ≡ put (record { kind = r.kind; span = record { start = r.span.start; end = p.span.end } }) (joined ps)
+unfolding joined
+put_white r p ps e f = put_twice r (row_of p) (joined ps) e f
