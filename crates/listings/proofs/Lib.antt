@@ -1,3 +1,4 @@
 pub mod Runs
 pub mod Defaults
 pub mod Lines
+pub mod Evaluated

@@ -1,8 +1,10 @@
 -- Rows of pieces, one step at a time.
 use Rattle.std.proofs.Common.{◌≡◌, Bool, true, false, ◌&&◌, List, [], ◌∷◌, sym, refl, ap, ◌∙◌}
+use Rattle.std.proofs.lemmas.Bool.{both_ways}
+use Rattle.std.specs.List.{AllByRecursion}
 use Rattle.pieces.specs.declared.piece.Piece.{Piece}
 use Rattle.listings.specs.declared.row.Row.{Row}
-use Rattle.listings.specs.Rows.{is_white, row_of, put, joined, starts_white}
+use Rattle.listings.specs.Rows.{is_white, row_of, put, joined, starts_white, White_piece, Makes, Parted, Joins}
 
 pub joined_none : joined [] ≡ []
 unfolding joined
@@ -58,3 +60,41 @@ put_twice r s (t ∷ rs) e f = put_third r s t rs e f (is_white t.kind) refl
 pub put_white : (r : Row) (p : Piece) (ps : List Piece) → is_white r.kind ≡ true → is_white p.kind ≡ true → put r (joined (p ∷ ps)) ≡ put (record { kind = r.kind; span = record { start = r.span.start; end = p.span.end } }) (joined ps)
 unfolding joined
 put_white r p ps e f = put_twice r (row_of p) (joined ps) e f
+
+-- the law of rows
+
+-- all of a run are white that makes a white row
+run_white : (q : Piece) (qs : List Piece) (s : Row) → Makes (q ∷ qs) s → is_white s.kind ≡ true → AllByRecursion White_piece (q ∷ qs)
+run_white q [] s m e = (ap is_white (sym m.0) ∙ e, tt)
+run_white q (x ∷ xs) s m e = m.3
+
+-- a white piece in front of a run that makes a white row
+run_more : (p : Piece) (g : List Piece) (s : Row) → Makes g s → is_white p.kind ≡ true → is_white s.kind ≡ true → Makes (p ∷ g) (reaching (row_of p) s)
+run_more p [] s m e f = absurd m
+run_more p (q ∷ qs) s m e f = (refl, refl, m.2, (e, run_white q qs s m f))
+
+-- what follows a white row follows another one
+parted_by : (r s : Row) (rs : List Row) → is_white r.kind ≡ true → is_white s.kind ≡ true → Parted s rs → Parted r rs
+parted_by r s [] e f h = tt
+parted_by r s (t ∷ rs) e f h = ap (λ b. b && is_white t.kind) (e ∙ sym f) ∙ h
+
+and_both : (a b : Bool) → (a && b) ≡ true → (a ≡ true) × (b ≡ true)
+and_both true b e = (refl, e)
+and_both false b e = absurd (both_ways false refl e)
+
+-- a piece in front is a run of its own, or goes to the first run
+joins_by : (p : Piece) (ps : List Piece) (s : Row) (rs : List Row) (b : Bool) → (is_white p.kind && is_white s.kind) ≡ b → Joins ps (s ∷ rs) → Joins (p ∷ ps) (put_by (row_of p) s rs b)
+joins_by p ps s rs false e d = ((p ∷ []) ∷ d.0, ap (λ l. p ∷ l) d.1, ((refl, refl, refl, tt), d.2), (e, d.3))
+joins_by p ps s rs true e ([], a, m, h) = absurd m
+joins_by p ps s rs true e (g ∷ gs, a, m, h) =
+    let k = and_both (is_white p.kind) (is_white s.kind) e in
+    ((p ∷ g) ∷ gs, ap (λ l. p ∷ l) a, (run_more p g s m.0 k.0 k.1, m.1), (parted_by (reaching (row_of p) s) s rs k.0 k.1 h.0, h.1))
+
+joins_put : (p : Piece) (ps : List Piece) (rs : List Row) → Joins ps rs → Joins (p ∷ ps) (put (row_of p) rs)
+joins_put p ps [] d = ((p ∷ []) ∷ d.0, ap (λ l. p ∷ l) d.1, ((refl, refl, refl, tt), d.2), (tt, tt))
+joins_put p ps (s ∷ rs) d = joins_by p ps s rs (is_white p.kind && is_white s.kind) refl d
+
+pub rows_join : (ps : List Piece) → Joins ps (joined ps)
+unfolding joined
+rows_join [] = ([], refl, tt, tt)
+rows_join (p ∷ ps) = joins_put p ps (joined ps) (rows_join ps)

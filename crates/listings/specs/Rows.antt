@@ -1,5 +1,7 @@
 -- Rows: the pieces of a reading, of which white neighbours are one.
 use Rattle.std.specs.Prelude.{◌≡◌, ℕ, ◌<◌, ◌≤◌, Bool, true, false, ◌&&◌, List, [], ◌∷◌, ◌++◌, Some, None, Option, codes}
+use Rattle.std.specs.List.{flat_map, AllByRecursion}
+use Rattle.places.specs.declared.Place.{Place}
 use Rattle.places.specs.Places.{place_text}
 use Rattle.pieces.specs.declared.kind.Kind.{Kind}
 use Rattle.pieces.specs.declared.kind.Kind.TheVariants.{White}
@@ -46,3 +48,45 @@ Takes xs None ys = (starts_white xs ≡ false) × (ys ≡ xs)
 abbrev pub FallsIf : Option Piece → ℕ → ℕ → Type 0
 FallsIf (Some p) m n = n < m
 FallsIf None m n = n ≤ m
+
+-- in words
+
+-- a white piece
+abbrev pub White_piece : Piece → Type 0
+White_piece p = is_white p.kind ≡ true
+
+-- where the last of the pieces p ∷ ps ends
+abbrev pub end_of : Piece → List Piece → Place
+end_of p [] = p.span.end
+end_of p (q ∷ qs) = end_of q qs
+
+-- the pieces p ∷ ps may stand on one row: there is one, or all are white
+abbrev pub AsOne : Piece → List Piece → Type 0
+AsOne p [] = Unit {0}
+AsOne p (q ∷ qs) = AllByRecursion White_piece (p ∷ q ∷ qs)
+
+-- a run of pieces makes this row: of the first one's kind, from where that starts to where the last ends
+abbrev pub Makes : List Piece → Row → Type 0
+Makes [] r = ⊥
+Makes (p ∷ ps) r = (r.kind ≡ p.kind) × (r.span.start ≡ p.span.start) × (r.span.end ≡ end_of p ps) × AsOne p ps
+
+-- runs of pieces make rows, one each in their order
+abbrev pub MakeAll : List (List Piece) → List Row → Type 0
+MakeAll [] [] = Unit {0}
+MakeAll [] (r ∷ rs) = ⊥
+MakeAll (g ∷ gs) [] = ⊥
+MakeAll (g ∷ gs) (r ∷ rs) = Makes g r × MakeAll gs rs
+
+-- two rows are not both white
+abbrev pub Parted : Row → List Row → Type 0
+Parted r [] = Unit {0}
+Parted r (s ∷ rs) = (is_white r.kind && is_white s.kind) ≡ false
+
+-- no two neighbouring rows are
+abbrev pub AllParted : List Row → Type 0
+AllParted [] = Unit {0}
+AllParted (r ∷ rs) = Parted r rs × AllParted rs
+
+-- the pieces fall into runs, none left out, each of which makes a row; and no two neighbouring rows are white
+abbrev pub Joins : List Piece → List Row → Type 0
+Joins ps rs = (runs : List (List Piece)) × (flat_map (λ g. g) runs ≡ ps) × MakeAll runs rs × AllParted rs

@@ -12,7 +12,9 @@ ghost use Rattle.places.specs.Places.{first_place};
 ghost use Rattle.rules.specs.Config.{config_of, default_config};
 ghost use Rattle.rules.specs.declared.LexerState.TheVariants.{Template};
 ghost use Rattle.reader.specs.Views.{view_of, config, unread};
-ghost use Rattle.listings.specs.Listing.{lines, end_line, fault_line, refusal_line, listing, Refuses};
+ghost use Rattle.listings.specs.Examples.{ExamplesHold};
+ghost use Rattle.listings.specs.Listing.{lines, end_line, fault_line, refusal_line, pieces_in, listing, Refuses};
+ghost use Rattle.listings.specs.Rows.{joined, Joins};
 
 use finders::DefaultFinder;
 use pieces::ReadFault;
@@ -107,8 +109,11 @@ fn add_listing(out: &mut String, template: &[u8]) -> Result<(), AllocError>
 }
 
 // The listing of a template under the default settings, in memory of its own.
+#[tactic(auto, using(crate::proofs::Runs::rows_join, crate::proofs::Evaluated::examples_hold))]
 pub fn list(heap: Global, template: &[u8]) -> Result<String, AllocError>
     ensures listing { IfOk result (λ s. string_bytes s ≡ listing template.now) }
+    ensures rows { Joins (pieces_in template.now) (joined (pieces_in template.now)) }
+    ensures examples { ExamplesHold }
 {
     let mut out = String::new(heap);
     add_listing(&mut out, template)?;
