@@ -1,17 +1,16 @@
 -- The lines of a listing, one at a time.
-use Rattle.std.proofs.Common.{◌≡◌, ℕ, List, [], ◌∷◌, ◌++◌, Some, None, Ok, Err, Option, Result, sym, refl, ap, ◌∙◌, append_assoc, subst, OnOk}
+use Rattle.std.proofs.Common.{◌≡◌, ℕ, List, [], ◌∷◌, ◌++◌, Some, None, Ok, Option, Result, sym, refl, ap, ◌∙◌, append_assoc, subst, OnOk}
 use Rattle.std.specs.declared.alloc.AllocError.{AllocError}
 use Rattle.stream.specs.Told.{Ending, Next}
 use Rattle.places.specs.declared.Place.{Place}
 use Rattle.places.specs.Places.{first_place}
 use Rattle.pieces.specs.declared.fault.ReadFault.{ReadFault}
-use Rattle.finder.specs.Finding.{Opening}
 use Rattle.finders.specs.Defaults.{default_openings}
 use Rattle.syntax.specs.Openings.{openings_of}
-use Rattle.rules.specs.Config.{Config, config_of, default_config}
+use Rattle.rules.specs.Config.{default_config}
 use Rattle.rules.specs.Texts.{Same}
 use Rattle.reader.specs.declared.reader.Reader.{Reader}
-use Rattle.reader.specs.Views.{View, config, view_of, items_of, ending_of, Lawful}
+use Rattle.reader.specs.Views.{config, view_of, items_of, ending_of, Lawful}
 use Rattle.listings.specs.declared.row.Row.{Row}
 use Rattle.listings.specs.Rows.{row_text, joined}
 use Rattle.listings.specs.Listing.{refusal, refusal_line, ending_line, lines, opened, pieces_in, ending_in, listing}
@@ -20,11 +19,12 @@ lines_row : (p : Place) (r : Row) (rs : List Row) (e : Ending ReadFault) → lin
 unfolding lines
 lines_row p r rs e = refl
 
--- the line of a row that is told is written
-pub line_more : (out new : List ℕ) (p : Place) (xs ys : List Row) (o : Option Row) (r : Row) (e f : Ending ReadFault) → o ≡ Some r → Next xs e (Ok o) ys f → new ≡ out ++ (row_text r ++ (10 ∷ [])) → out ++ lines p xs e ≡ new ++ lines r.span.end ys f
-line_more out new p xs ys o r e f s told w =
+-- the line of a row that is told is written: with those still to come they are the whole as before
+pub line_more : (whole out new : List ℕ) (p : Place) (xs ys : List Row) (o : Option Row) (r : Row) (e f : Ending ReadFault) → whole ≡ out ++ lines p xs e → o ≡ Some r → Next xs e (Ok o) ys f → new ≡ out ++ (row_text r ++ (10 ∷ [])) → whole ≡ new ++ lines r.span.end ys f
+line_more whole out new p xs ys o r e f i s told w =
     let t = subst (λ x. Next xs e (Ok x) ys f) s told in
-    ap (λ l. out ++ lines p l e) t.0
+    i
+    ∙ ap (λ l. out ++ lines p l e) t.0
     ∙ ap (λ x. out ++ lines p (r ∷ ys) x) (sym t.1)
     ∙ ap (λ l. out ++ l) (lines_row p r ys f)
     ∙ sym (append_assoc out (row_text r ++ (10 ∷ [])) (lines r.span.end ys f))

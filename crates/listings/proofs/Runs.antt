@@ -4,7 +4,7 @@ use Rattle.std.proofs.lemmas.Bool.{both_ways}
 use Rattle.std.specs.List.{AllByRecursion}
 use Rattle.pieces.specs.declared.piece.Piece.{Piece}
 use Rattle.listings.specs.declared.row.Row.{Row}
-use Rattle.listings.specs.Rows.{is_white, row_of, put, joined, starts_white, White_piece, Makes, Parted, Joins}
+use Rattle.listings.specs.Rows.{is_white, row_of, reaching, put, joined, starts_white, IsWhite, Makes, Parted, Joins}
 
 pub joined_none : joined [] ≡ []
 unfolding joined
@@ -13,10 +13,6 @@ joined_none = refl
 pub joined_more : (p : Piece) (ps : List Piece) → joined (p ∷ ps) ≡ put (row_of p) (joined ps)
 unfolding joined
 joined_more p ps = refl
-
--- from the start of a row to the end of another
-abbrev reaching : Row → Row → Row
-reaching r s = record { kind = r.kind; span = record { start = r.span.start; end = s.span.end } }
 
 -- two rows, joined or not
 abbrev put_by : Row → Row → List Row → Bool → List Row
@@ -57,14 +53,14 @@ put_twice r s [] e f = put_both r s [] e f
 put_twice r s (t ∷ rs) e f = put_third r s t rs e f (is_white t.kind) refl
 
 -- a white piece that comes next moves the end of a white row
-pub put_white : (r : Row) (p : Piece) (ps : List Piece) → is_white r.kind ≡ true → is_white p.kind ≡ true → put r (joined (p ∷ ps)) ≡ put (record { kind = r.kind; span = record { start = r.span.start; end = p.span.end } }) (joined ps)
+pub put_white : (r : Row) (p : Piece) (ps : List Piece) → is_white r.kind ≡ true → is_white p.kind ≡ true → put r (joined (p ∷ ps)) ≡ put (reaching r (row_of p)) (joined ps)
 unfolding joined
 put_white r p ps e f = put_twice r (row_of p) (joined ps) e f
 
 -- the law of rows
 
 -- all of a run are white that makes a white row
-run_white : (q : Piece) (qs : List Piece) (s : Row) → Makes (q ∷ qs) s → is_white s.kind ≡ true → AllByRecursion White_piece (q ∷ qs)
+run_white : (q : Piece) (qs : List Piece) (s : Row) → Makes (q ∷ qs) s → is_white s.kind ≡ true → AllByRecursion IsWhite (q ∷ qs)
 run_white q [] s m e = (ap is_white (sym m.0) ∙ e, tt)
 run_white q (x ∷ xs) s m e = m.3
 

@@ -14,7 +14,7 @@ use Rattle.rules.specs.declared.LexerState.{LexerState}
 use Rattle.rules.specs.declared.LexerState.TheVariants.{Template}
 use Rattle.rules.specs.Config.{default_config}
 use Rattle.rules.specs.Reading.{in_expression}
-use Rattle.reader.specs.Views.{View, unread, left_of, tell}
+use Rattle.reader.specs.Views.{View, Told as Answered, unread, left_of, tell}
 use Rattle.listings.specs.Listing.{listing}
 
 -- what calls tell one after the other, to the ending: the pieces, and the view behind the last call
@@ -22,20 +22,25 @@ pub record Heard : Type 0 where
   pub pieces : List Piece
   pub behind : View
 
+-- no more is told
+abbrev pub no_more : View → Heard
+no_more v = record { pieces = []; behind = v }
+
 -- a piece, and then what the later calls tell
 abbrev pub first : Piece → Heard → Heard
 first p h = record { pieces = p ∷ h.pieces; behind = h.behind }
 
+-- what a call tells, and then the later ones; behind an ending there are none
+abbrev pub heard_by : (View → Heard) → Answered → Heard
+heard_by later t = elim t.answer [
+  | Ok o ↦ elim o [ Some p ↦ first p (later t.after) | None ↦ no_more t.after ]
+  | Err f ↦ no_more t.after
+]
+
 -- what calls tell under the default settings, at most so many of them
 unfoldable pub heard : ℕ → View → Heard
-heard zero v = record { pieces = []; behind = v }
-heard (suc n) v = elim (tell default_openings default_config v).answer [
-  | Ok o ↦ elim o [
-    | Some p ↦ first p (heard n (tell default_openings default_config v).after)
-    | None ↦ record { pieces = []; behind = (tell default_openings default_config v).after }
-  ]
-  | Err f ↦ record { pieces = []; behind = (tell default_openings default_config v).after }
-]
+heard zero v = no_more v
+heard (suc n) v = heard_by (heard n) (tell default_openings default_config v)
 
 -- what all calls tell of a template or an expression, which starts in this state
 abbrev pub hear : LexerState → List ℕ → Heard
@@ -106,14 +111,14 @@ examples =
     Reads Template [] (finished [] (pos 0)) ∷
     -- two integers and one float
     Reads Template (codes "{{ x.1.0 }}") (finished (
-      piece VariableStart (codes "{{") ∷ piece White (codes " ") ∷ piece Ident (codes "x") ∷ piece (Operates Dot) (codes ".") ∷ valued Int (codes "1") 1
-      ∷ piece (Operates Dot) (codes ".") ∷ valued Int (codes "0") 0 ∷ piece White (codes " ") ∷ piece VariableEnd (codes "}}") ∷ []) (pos 0)) ∷
+    piece VariableStart (codes "{{") ∷ piece White (codes " ") ∷ piece Ident (codes "x") ∷ piece (Operates Dot) (codes ".") ∷ valued Int (codes "1") 1
+    ∷ piece (Operates Dot) (codes ".") ∷ valued Int (codes "0") 0 ∷ piece White (codes " ") ∷ piece VariableEnd (codes "}}") ∷ []) (pos 0)) ∷
     Reads Template (codes "{{ 1.0 }}") (finished (
-      piece VariableStart (codes "{{") ∷ piece White (codes " ") ∷ piece Float (codes "1.0") ∷ piece White (codes " ") ∷ piece VariableEnd (codes "}}") ∷ []) (pos 0)) ∷
+    piece VariableStart (codes "{{") ∷ piece White (codes " ") ∷ piece Float (codes "1.0") ∷ piece White (codes " ") ∷ piece VariableEnd (codes "}}") ∷ []) (pos 0)) ∷
     -- a tag that is not closed, since three brackets are
     Reads Template (codes "{{ ) }}") (finished (
-      piece VariableStart (codes "{{") ∷ piece White (codes " ") ∷ piece (Operates ParenClose) (codes ")") ∷ piece White (codes " ")
-      ∷ piece (Operates BraceClose) (codes "}") ∷ piece (Operates BraceClose) (codes "}") ∷ []) (negsuc 2)) ∷
+    piece VariableStart (codes "{{") ∷ piece White (codes " ") ∷ piece (Operates ParenClose) (codes ")") ∷ piece White (codes " ")
+    ∷ piece (Operates BraceClose) (codes "}") ∷ piece (Operates BraceClose) (codes "}") ∷ []) (negsuc 2)) ∷
     -- the cut
     Reads Template (codes "a\r\n") (finished (piece Text (codes "a") ∷ piece Cut (codes "\r\n") ∷ []) (pos 0)) ∷
     -- bad escapes, and a pair of surrogates

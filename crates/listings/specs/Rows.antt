@@ -17,13 +17,14 @@ is_white k = elim k [ White ↦ true | _ ↦ false ]
 abbrev pub row_of : Piece → Row
 row_of p = record { kind = p.kind; span = p.span }
 
--- a row, and behind it others: two white neighbours are one row, from the start of the first to the end of the second
+-- a row that reaches to the end of another
+abbrev pub reaching : Row → Row → Row
+reaching r s = record { kind = r.kind; span = record { start = r.span.start; end = s.span.end } }
+
+-- a row in front of others: two white neighbours are one row, from the start of the first to the end of the second
 abbrev pub put : Row → List Row → List Row
 put r [] = r ∷ []
-put r (s ∷ rs) = elim (is_white r.kind && is_white s.kind) [
-  | true ↦ record { kind = r.kind; span = record { start = r.span.start; end = s.span.end } } ∷ rs
-  | false ↦ r ∷ s ∷ rs
-]
+put r (s ∷ rs) = elim (is_white r.kind && is_white s.kind) [ true ↦ reaching r s ∷ rs | false ↦ r ∷ s ∷ rs ]
 
 -- the rows of pieces: one for each, but for white neighbours
 unfoldable pub joined : List Piece → List Row
@@ -51,9 +52,9 @@ FallsIf None m n = n ≤ m
 
 -- in words
 
--- a white piece
-abbrev pub White_piece : Piece → Type 0
-White_piece p = is_white p.kind ≡ true
+-- a piece is white
+abbrev pub IsWhite : Piece → Type 0
+IsWhite p = is_white p.kind ≡ true
 
 -- where the last of the pieces p ∷ ps ends
 abbrev pub end_of : Piece → List Piece → Place
@@ -63,30 +64,30 @@ end_of p (q ∷ qs) = end_of q qs
 -- the pieces p ∷ ps may stand on one row: there is one, or all are white
 abbrev pub AsOne : Piece → List Piece → Type 0
 AsOne p [] = Unit {0}
-AsOne p (q ∷ qs) = AllByRecursion White_piece (p ∷ q ∷ qs)
+AsOne p (q ∷ qs) = AllByRecursion IsWhite (p ∷ q ∷ qs)
 
--- a run of pieces makes this row: of the first one's kind, from where that starts to where the last ends
+-- a run of pieces makes this row: of the kind of the first, from where that starts to where the last ends
 abbrev pub Makes : List Piece → Row → Type 0
 Makes [] r = ⊥
 Makes (p ∷ ps) r = (r.kind ≡ p.kind) × (r.span.start ≡ p.span.start) × (r.span.end ≡ end_of p ps) × AsOne p ps
 
--- runs of pieces make rows, one each in their order
+-- runs make rows, one each in their order
 abbrev pub MakeAll : List (List Piece) → List Row → Type 0
 MakeAll [] [] = Unit {0}
 MakeAll [] (r ∷ rs) = ⊥
-MakeAll (g ∷ gs) [] = ⊥
-MakeAll (g ∷ gs) (r ∷ rs) = Makes g r × MakeAll gs rs
+MakeAll (ps ∷ runs) [] = ⊥
+MakeAll (ps ∷ runs) (r ∷ rs) = Makes ps r × MakeAll runs rs
 
--- two rows are not both white
+-- a row and the one that comes next are not both white
 abbrev pub Parted : Row → List Row → Type 0
 Parted r [] = Unit {0}
 Parted r (s ∷ rs) = (is_white r.kind && is_white s.kind) ≡ false
 
--- no two neighbouring rows are
+-- no two neighbours are both white
 abbrev pub AllParted : List Row → Type 0
 AllParted [] = Unit {0}
 AllParted (r ∷ rs) = Parted r rs × AllParted rs
 
--- the pieces fall into runs, none left out, each of which makes a row; and no two neighbouring rows are white
+-- the pieces fall into runs, none left out, each of which makes a row; and no two neighbouring rows are white, so that runs of white pieces are the longest
 abbrev pub Joins : List Piece → List Row → Type 0
-Joins ps rs = (runs : List (List Piece)) × (flat_map (λ g. g) runs ≡ ps) × MakeAll runs rs × AllParted rs
+Joins ps rs = (runs : List (List Piece)) × (flat_map (λ run. run) runs ≡ ps) × MakeAll runs rs × AllParted rs

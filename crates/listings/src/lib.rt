@@ -81,7 +81,10 @@ fn add_fault(out: &mut String, fault: ReadFault) -> Result<(), AllocError>
 }
 
 // Adds a line for each row that is still to come, and the last line.
-fn add_lines<S: Stream<Item = Row, Fault = ReadFault> + Drop>(out: &mut String, mut rows: S) -> Result<(), AllocError>
+fn add_lines<S: Stream<Item = Row, Fault = ReadFault> + Drop>(
+    out: &mut String,
+    mut rows: S,
+) -> Result<(), AllocError>
     ensures { S.Stream.serves rows default_openings → OnOk result (string_bytes out.new ≡ string_bytes out.old ++ lines first_place (S.Stream.items rows) (S.Stream.ending rows)) }
 {
     let mut reached = Place::start();

@@ -8,9 +8,9 @@ use std::fmt;
 
 // What stands on a line of the listing: a piece, or white ones that are neighbours.
 #[derive(Clone, Copy, Debug, PartialEq, Eq)]
-pub struct Row {
-    pub kind: Kind,
-    pub span: Span,
+pub(crate) struct Row {
+    pub(crate) kind: Kind,
+    pub(crate) span: Span,
 }
 
 // The row of one piece.
