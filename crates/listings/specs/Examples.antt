@@ -1,5 +1,5 @@
 -- Worked examples of reading and of listing.
-use Rattle.std.specs.Prelude.{◌≡◌, ℕ, zero, suc, ◌-◌, List, [], ◌∷◌, map, take, drop, ℤ, pos, negsuc, Some, None, Option, Ok, Err, codes}
+use Rattle.std.specs.Prelude.{◌≡◌, ℕ, zero, suc, ◌-◌, List, [], ◌∷◌, map, replicate, take, drop, ℤ, pos, negsuc, Some, None, Option, Ok, Err, codes}
 use Rattle.std.specs.List.{AllByRecursion}
 use Rattle.stream.specs.Told.{Ending}
 use Rattle.pieces.specs.declared.kind.Kind.{Kind}
@@ -104,9 +104,10 @@ abbrev pub examples : List Example
 examples =
     Lists (codes "a{{ b }}") (codes "text 1:0:0 1:1:1\nvar-start 1:1:1 1:3:3\nwhite 1:3:3 1:4:4\nident 1:4:4 1:5:5\nwhite 1:5:5 1:6:6\nvar-end 1:6:6 1:8:8\nend 1:8:8 1:8:8\n") ∷
     Lists [] (codes "end 1:0:0 1:0:0\n") ∷
-    -- a fault, and a template that is not UTF-8
+    -- a fault, a template that is not UTF-8, and one that has too many bytes
     Lists (codes "{{ \"ab\\ud83d\" }}") (codes "var-start 1:0:0 1:2:2\nwhite 1:2:2 1:3:3\nfault 15 1:3:3 1:13:13\n") ∷
     Lists (97 ∷ 0xC3 ∷ []) (codes "refused 6 1\n") ∷
+    Lists (replicate 65537 97) (codes "refused 5\n") ∷
     -- the empty template
     Reads Template [] (finished [] (pos 0)) ∷
     -- two integers and one float
