@@ -1,0 +1,4 @@
+pub mod Calls
+pub mod Whole
+pub mod Named
+pub mod Resting

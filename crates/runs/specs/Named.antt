@@ -1,0 +1,72 @@
+-- Nothing misnamed: no opening lies in plain text, and every gap has its form.
+use Rattle.std.specs.Prelude.{◌≡◌, ℕ, ◌+◌, ◌-◌, ◌<◌, ◌≤◌, List, length, take, drop, Some}
+use Rattle.std.specs.List.{ContainsAt as Has}
+use Rattle.byte_search.specs.Search.{stands_at, First, Stands}
+use Rattle.finder.specs.declared.StartMarker.{StartMarker}
+use Rattle.finder.specs.declared.StartMarker.TheVariants.{Block as BlockMarker, Comment as CommentMarker, LineComment as LineCommentMarker}
+use Rattle.finder.specs.Finding.{Opening, QualifiesAt}
+use Rattle.spaces.specs.Runs.{AllPass}
+use Rattle.spaces.specs.Lines.{LineEnd}
+use Rattle.pieces.specs.declared.kind.Kind.{Kind}
+use Rattle.pieces.specs.declared.kind.Kind.TheVariants.{Text, RawText, VariableStart, VariableEnd, BlockStart, BlockEnd, Ident, Str, String, Int, Big, Float, Operator as Operates, White, Comment, LineComment, RawOpen, RawClose, Cut}
+use Rattle.rules.specs.Bytes.{sign_at, sign_len, in_line, LongestRun}
+use Rattle.rules.specs.Config.{Config, white}
+use Rattle.rules.specs.Reading.{left_len}
+use Rattle.rules.specs.Texts.{basic_tag, raw_name, closer_at}
+use Rattle.runs.specs.Whole.{Spans, Along, pieces_of}
+use Rattle.runs.specs.declared.Reply.{Reply}
+
+-- no opening qualifies at a place of u from i to j
+abbrev pub NoOpening : List Opening → List ℕ → ℕ → ℕ → Type 0
+NoOpening os u i j = (k : ℕ) (o : Opening) → i ≤ k → k < j → Has os o → QualifiesAt o u k → ⊥
+
+-- an opening of this kind qualifies at the place i of u; it has n bytes with the sign behind it
+abbrev pub OpensAt : List Opening → StartMarker → List ℕ → ℕ → ℕ → Type 0
+OpensAt os m u i n = (o : Opening) × Has os o × (o.marker ≡ m) × QualifiesAt o u i × (n ≡ length o.bytes + sign_len (sign_at (drop (i + length o.bytes) u)))
+
+-- a comment: an opening with its sign, a body, and the comment end, which stands nowhere before
+abbrev pub IsComment : List Opening → Config → List ℕ → ℕ → ℕ → Type 0
+IsComment os s u i j =
+    (n : ℕ) × OpensAt os CommentMarker u i n
+    × (d : ℕ) × First (Stands s.comment_end (drop (i + n) u)) (Some d) × (j ≡ i + n + d + length s.comment_end)
+
+-- a line comment: an opening with its sign, the bytes before CR or LF, and one line end, if there is one
+abbrev pub IsLineComment : List Opening → List ℕ → ℕ → ℕ → Type 0
+IsLineComment os u i j =
+    (n : ℕ) × OpensAt os LineCommentMarker u i n
+    × (a : ℕ) × LongestRun in_line (drop (i + n) u) a × (b : ℕ) × LineEnd (drop (i + n + a) u) b × (j ≡ i + n + a + b)
+
+-- the tag that begins a raw block: an opening with its sign, then blanks, `raw`, blanks, an optional sign and the block end
+abbrev pub IsRawOpen : List Opening → Config → List ℕ → ℕ → ℕ → Type 0
+IsRawOpen os s u i j = (n : ℕ) × OpensAt os BlockMarker u i n × (t : _) × (basic_tag raw_name s.block_end (drop (i + n) u) ≡ Some t) × (j ≡ i + n + t.0)
+
+-- the tag that ends it: the block start with a sign, then blanks, `endraw`, blanks, an optional sign and the block end
+abbrev pub IsRawClose : Config → List ℕ → ℕ → ℕ → Type 0
+IsRawClose s u i j = (r : _) × (closer_at s (drop i u) ≡ Some r) × (j ≡ i + r.len)
+
+-- the piece of this kind from i to j is what its kind says; u is what the cut leaves of the template t.
+-- Of tokens that are not text their rules say it; every other byte is of one of these forms.
+abbrev pub IsNamed : List Opening → Config → List ℕ → ℕ → ℕ → Kind → Type 0
+IsNamed os s t i j Text = NoOpening os (take (left_len s t) t) i j
+IsNamed os s t i j White = AllPass (white s) (take (j - i) (drop i t))
+IsNamed os s t i j Comment = IsComment os s (take (left_len s t) t) i j
+IsNamed os s t i j LineComment = IsLineComment os (take (left_len s t) t) i j
+IsNamed os s t i j RawOpen = IsRawOpen os s (take (left_len s t) t) i j
+IsNamed os s t i j RawClose = IsRawClose s (take (left_len s t) t) i j
+IsNamed os s t i j Cut = (i ≡ left_len s t) × (j ≡ length t)
+IsNamed os s t i j RawText = Unit {0}
+IsNamed os s t i j VariableStart = Unit {0}
+IsNamed os s t i j VariableEnd = Unit {0}
+IsNamed os s t i j BlockStart = Unit {0}
+IsNamed os s t i j BlockEnd = Unit {0}
+IsNamed os s t i j Ident = Unit {0}
+IsNamed os s t i j Str = Unit {0}
+IsNamed os s t i j String = Unit {0}
+IsNamed os s t i j Int = Unit {0}
+IsNamed os s t i j Big = Unit {0}
+IsNamed os s t i j Float = Unit {0}
+IsNamed os s t i j (Operates o) = Unit {0}
+
+-- every piece that is told lies where the one before it ended, and is what its kind says
+abbrev pub Named : List Opening → Config → List ℕ → List Reply → Type 0
+Named os s t rs = (j : ℕ) × Along (λ i k p. Spans t i k p × IsNamed os s t i k p.kind) 0 (pieces_of rs) j

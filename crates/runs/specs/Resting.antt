@@ -1,0 +1,188 @@
+-- No earlier text reaches past a resting point.
+use Rattle.std.specs.Prelude.{◌≡◌, ℕ, ◌+◌, ◌-◌, ◌<◌, Bool, true, false, ◌||◌, List, [], ◌∷◌, map, length, take, drop, Some, None, Option, Ok, Err, Result}
+use Rattle.finder.specs.Finding.{Opening}
+use Rattle.stream.specs.Told.{Ending}
+use Rattle.places.specs.declared.Place.{Place}
+use Rattle.places.specs.declared.Span.{Span}
+use Rattle.places.specs.Places.{line_cap, offset_cap}
+use Rattle.pieces.specs.declared.piece.TextRange.{TextRange}
+use Rattle.pieces.specs.declared.piece.Piece.{Piece}
+use Rattle.pieces.specs.declared.fault.ReadFault.{ReadFault}
+use Rattle.rules.specs.declared.LexerState.{LexerState}
+use Rattle.rules.specs.Config.{Config}
+use Rattle.reader.specs.Views.{View, items_of, ending_of, unread}
+use Rattle.layers.specs.Layers.{drop_gaps, piece_gap, piece_line, fault_line, shift_piece, shift_fault, shifted_items, shifted_ending}
+use Rattle.runs.specs.declared.Reply.{Reply}
+use Rattle.runs.specs.declared.Reply.TheVariants.{Told, Rests}
+use Rattle.runs.specs.Calls.{Ask, rests, replies, behind_calls, AllLawful}
+
+-- piles of layers
+
+-- a piece with the bytes that its text range names in its template
+pub record Item : Type 0 where
+  pub piece : Piece
+  pub text : List ℕ
+
+-- a layer, by what it does
+pub data Layer : Type 0 where
+  Tokens : Layer
+  Shift : Place → Layer
+  LookAhead : Layer
+
+-- what a stream of items means
+pub record Meaning : Type 0 where
+  pub items : List Item
+  pub ending : Ending ReadFault
+
+-- the items of a layer know their pieces
+abbrev pub item_gap : Item → Bool
+item_gap x = piece_gap x.piece
+
+abbrev pub item_line : Item → ℕ
+item_line x = piece_line x.piece
+
+abbrev pub shift_item : Place → Option ℕ → Item → Item
+shift_item base first x = record { piece = shift_piece base first x.piece; text = x.text }
+
+-- a layer over a stream: no gaps; the base added; or the same
+abbrev pub layer_over : Layer → Meaning → Meaning
+layer_over Tokens m = record { items = drop_gaps item_gap m.items; ending = m.ending }
+layer_over (Shift base) m = record {
+  items = shifted_items item_line fault_line shift_item base None m.items m.ending;
+  ending = shifted_ending item_line fault_line shift_fault base None m.items m.ending;
+}
+layer_over LookAhead m = m
+
+-- a pile of layers over a stream, the topmost first
+unfoldable pub pile_over : List Layer → Meaning → Meaning
+pile_over [] m = m
+pile_over (l ∷ ls) m = layer_over l (pile_over ls m)
+
+-- a Shift is in the pile
+unfoldable pub has_shift : List Layer → Bool
+has_shift [] = false
+has_shift (Tokens ∷ ls) = has_shift ls
+has_shift (Shift base ∷ ls) = true
+has_shift (LookAhead ∷ ls) = has_shift ls
+
+-- what a reader of the template t means that stands at a view
+abbrev pub item_in : List ℕ → Piece → Item
+item_in t p = record { piece = p; text = take (p.text.end - p.text.start) (drop p.text.start t) }
+
+abbrev pub meaning_of : List Opening → Config → List ℕ → View → Meaning
+meaning_of os s t v = record { items = map (item_in t) (items_of os s v); ending = ending_of os s v }
+
+-- calls on a pile: next takes the first item off, and look leaves it
+pub data Call : Type 0 where
+  Next : Call
+  Look : Call
+
+-- what either tells
+abbrev pub told_of : Meaning → Result (Option Item) ReadFault
+told_of m = elim m.items [ [] ↦ elim m.ending [ Ok u ↦ Ok None | Err f ↦ Err f ] | x ∷ xs ↦ Ok (Some x) ]
+
+-- what is still to come behind a call
+abbrev pub behind_call : Meaning → Call → Meaning
+behind_call m Next = record { items = drop 1 m.items; ending = m.ending }
+behind_call m Look = m
+
+-- what calls on it tell
+unfoldable pub pile_replies : Meaning → List Call → List (Result (Option Item) ReadFault)
+pile_replies m [] = []
+pile_replies m (c ∷ cs) = told_of m ∷ pile_replies (behind_call m c) cs
+
+-- agreeing
+
+-- how much lower lines and offsets are on one side and on the other
+pub record Amounts : Type 0 where
+  pub line : ℕ
+  pub other_line : ℕ
+  pub offset : ℕ
+  pub other_offset : ℕ
+
+-- two lines below the cap differ by the amounts
+abbrev pub LinesAgree : Amounts → ℕ → ℕ → Type 0
+LinesAgree d m n = m < line_cap → n < line_cap → m + d.other_line ≡ n + d.line
+
+-- two offsets below the cap differ by the amounts
+abbrev pub OffsetsAgree : Amounts → ℕ → ℕ → Type 0
+OffsetsAgree d m n = m < offset_cap → n < offset_cap → m + d.other_offset ≡ n + d.offset
+
+-- two columns agree; with a Shift at lines below the cap only
+abbrev pub ColumnsAgree : Bool → Place → Place → Type 0
+ColumnsAgree false p q = p.column ≡ q.column
+ColumnsAgree true p q = p.line < line_cap → q.line < line_cap → p.column ≡ q.column
+
+abbrev pub PlacesAgree : Bool → Amounts → Place → Place → Type 0
+PlacesAgree shifted d p q = LinesAgree d p.line q.line × OffsetsAgree d p.offset q.offset × ColumnsAgree shifted p q
+
+abbrev pub SpansAgree : Bool → Amounts → Span → Span → Type 0
+SpansAgree shifted d a b = PlacesAgree shifted d a.start b.start × PlacesAgree shifted d a.end b.end
+
+-- kind, text and value are the same, and the places agree
+abbrev pub ItemsAgree : Bool → Amounts → Item → Item → Type 0
+ItemsAgree shifted d x y =
+    (x.piece.kind ≡ y.piece.kind) × (x.text ≡ y.text) × (x.piece.value ≡ y.piece.value) × SpansAgree shifted d x.piece.span y.piece.span
+    × OffsetsAgree d x.piece.text.start y.piece.text.start × OffsetsAgree d x.piece.text.end y.piece.text.end
+
+-- the fault is the same, the place of a backslash in its text included
+abbrev pub FaultsAgree : Bool → Amounts → ReadFault → ReadFault → Type 0
+FaultsAgree shifted d f g = (f.kind ≡ g.kind) × SpansAgree shifted d f.span g.span
+
+abbrev pub AnswersAgree : Bool → Amounts → Result (Option Item) ReadFault → Result (Option Item) ReadFault → Type 0
+AnswersAgree shifted d (Ok (Some x)) (Ok (Some y)) = ItemsAgree shifted d x y
+AnswersAgree shifted d (Ok (Some x)) (Ok None) = ⊥
+AnswersAgree shifted d (Ok (Some x)) (Err g) = ⊥
+AnswersAgree shifted d (Ok None) (Ok (Some y)) = ⊥
+AnswersAgree shifted d (Ok None) (Ok None) = Unit {0}
+AnswersAgree shifted d (Ok None) (Err g) = ⊥
+AnswersAgree shifted d (Err f) (Ok (Some y)) = ⊥
+AnswersAgree shifted d (Err f) (Ok None) = ⊥
+AnswersAgree shifted d (Err f) (Err g) = FaultsAgree shifted d f g
+
+-- one answer for the other, as many on both sides
+unfoldable pub AllAgree : {A : Type 0} → (A → A → Type 0) → List A → List A → Type 0
+AllAgree R [] [] = Unit {0}
+AllAgree R [] (y ∷ ys) = ⊥
+AllAgree R (x ∷ xs) [] = ⊥
+AllAgree R (x ∷ xs) (y ∷ ys) = R x y × AllAgree R xs ys
+
+-- a reply, with the text of its piece in the template t
+abbrev pub answer_in : List ℕ → Result (Option Piece) ReadFault → Result (Option Item) ReadFault
+answer_in t (Ok (Some p)) = Ok (Some (item_in t p))
+answer_in t (Ok None) = Ok None
+answer_in t (Err f) = Err f
+
+-- the replies of two readers, of the templates t and u
+abbrev pub RepliesAgree : Amounts → List ℕ → List ℕ → Reply → Reply → Type 0
+RepliesAgree d t u (Told a) (Told b) = AnswersAgree false d (answer_in t a) (answer_in u b)
+RepliesAgree d t u (Told a) (Rests y) = ⊥
+RepliesAgree d t u (Rests x) (Told b) = ⊥
+RepliesAgree d t u (Rests x) (Rests y) = x ≡ y
+
+-- a run: how its template was opened, the template, and the calls
+pub record Run : Type 0 where
+  pub state : LexerState
+  pub template : List ℕ
+  pub calls : List Ask
+
+-- where it leaves the reader
+abbrev pub left_at : Config → Run → View
+left_at s r = behind_calls s (unread s r.state r.template) r.calls
+
+-- two runs under the same settings, each by lawful finders, that come to resting points with the same bytes behind them, the cut included
+pub record BothRest (os : List Opening) (s : Config) (r q : Run) : Type 0 where
+  pub lawful : AllLawful os r.calls
+  pub other_lawful : AllLawful os q.calls
+  pub here : rests (left_at s r) ≡ true
+  pub other_here : rests (left_at s q) ≡ true
+  pub same : drop (left_at s r).place.offset r.template ≡ drop (left_at s q).place.offset q.template
+
+-- from there on both tell the same: the readers, and equal piles of layers on them
+abbrev pub Resting : List Opening → Config → Run → Run → Type 0
+Resting os s r q =
+    BothRest os s r q → (d : Amounts)
+    × ((cs : List Ask) → AllLawful os cs → AllAgree (RepliesAgree d r.template q.template) (replies s (left_at s r) cs) (replies s (left_at s q) cs))
+    × ((ls : List Layer) (cs : List Call) → AllAgree (AnswersAgree (has_shift ls) d)
+        (pile_replies (pile_over ls (meaning_of os s r.template (left_at s r))) cs)
+        (pile_replies (pile_over ls (meaning_of os s q.template (left_at s q))) cs))
