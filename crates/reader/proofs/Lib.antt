@@ -5,3 +5,4 @@ pub mod Tells
 pub mod Acts
 pub mod Settings
 pub mod Streams
+pub mod Fronts

@@ -1,3 +1,4 @@
 pub mod Faults
 pub mod Views
 pub mod Opens
+pub mod Rests

@@ -9,6 +9,7 @@ pub mod opening;
 mod parts;
 pub mod reader;
 pub mod reading;
+mod rest;
 mod verdicts;
 
 pub use closing::Closed;

@@ -2,3 +2,5 @@ pub mod Calls
 pub mod Whole
 pub mod Named
 pub mod Resting
+pub mod Faults
+pub mod Runs

@@ -1,7 +1,7 @@
 -- Nothing misnamed: no opening lies in plain text, and every gap has its form.
 use Rattle.std.specs.Prelude.{◌≡◌, ℕ, ◌+◌, ◌-◌, ◌<◌, ◌≤◌, List, length, take, drop, Some}
 use Rattle.std.specs.List.{ContainsAt as Has}
-use Rattle.byte_search.specs.Search.{stands_at, First, Stands}
+use Rattle.byte_search.specs.Search.{First, Stands}
 use Rattle.finder.specs.declared.StartMarker.{StartMarker}
 use Rattle.finder.specs.declared.StartMarker.TheVariants.{Block as BlockMarker, Comment as CommentMarker, LineComment as LineCommentMarker}
 use Rattle.finder.specs.Finding.{Opening, QualifiesAt}

@@ -1,11 +1,10 @@
 -- No earlier text reaches past a resting point.
-use Rattle.std.specs.Prelude.{◌≡◌, ℕ, ◌+◌, ◌-◌, ◌<◌, Bool, true, false, ◌||◌, List, [], ◌∷◌, map, length, take, drop, Some, None, Option, Ok, Err, Result}
+use Rattle.std.specs.Prelude.{◌≡◌, ℕ, ◌+◌, ◌-◌, ◌<◌, Bool, true, false, List, [], ◌∷◌, map, take, drop, Some, None, Option, Ok, Err, Result}
 use Rattle.finder.specs.Finding.{Opening}
-use Rattle.stream.specs.Told.{Ending}
+use Rattle.stream.specs.Told.{Ending, Next, Look}
 use Rattle.places.specs.declared.Place.{Place}
 use Rattle.places.specs.declared.Span.{Span}
 use Rattle.places.specs.Places.{line_cap, offset_cap}
-use Rattle.pieces.specs.declared.piece.TextRange.{TextRange}
 use Rattle.pieces.specs.declared.piece.Piece.{Piece}
 use Rattle.pieces.specs.declared.fault.ReadFault.{ReadFault}
 use Rattle.rules.specs.declared.LexerState.{LexerState}
@@ -14,7 +13,8 @@ use Rattle.reader.specs.Views.{View, items_of, ending_of, unread}
 use Rattle.layers.specs.Layers.{drop_gaps, piece_gap, piece_line, fault_line, shift_piece, shift_fault, shifted_items, shifted_ending}
 use Rattle.runs.specs.declared.Reply.{Reply}
 use Rattle.runs.specs.declared.Reply.TheVariants.{Told, Rests}
-use Rattle.runs.specs.Calls.{Ask, rests, replies, behind_calls, AllLawful}
+use Rattle.reader.specs.Rests.{rests}
+use Rattle.runs.specs.Calls.{Asked, replies, behind_calls, AllLawful}
 
 -- piles of layers
 
@@ -72,24 +72,22 @@ item_in t p = record { piece = p; text = take (p.text.end - p.text.start) (drop 
 abbrev pub meaning_of : List Opening → Config → List ℕ → View → Meaning
 meaning_of os s t v = record { items = map (item_in t) (items_of os s v); ending = ending_of os s v }
 
--- calls on a pile: next takes the first item off, and look leaves it
-pub data Call : Type 0 where
-  Next : Call
-  Look : Call
+-- what a call on a pile tells
+abbrev pub Answer : Type 0
+Answer = Result (Option Item) ReadFault
 
--- what either tells
-abbrev pub told_of : Meaning → Result (Option Item) ReadFault
-told_of m = elim m.items [ [] ↦ elim m.ending [ Ok u ↦ Ok None | Err f ↦ Err f ] | x ∷ xs ↦ Ok (Some x) ]
+-- calls on a pile: next, or look
+pub data PileCall : Type 0 where
+  Takes : PileCall
+  Looks : PileCall
 
--- what is still to come behind a call
-abbrev pub behind_call : Meaning → Call → Meaning
-behind_call m Next = record { items = drop 1 m.items; ending = m.ending }
-behind_call m Look = m
-
--- what calls on it tell
-unfoldable pub pile_replies : Meaning → List Call → List (Result (Option Item) ReadFault)
-pile_replies m [] = []
-pile_replies m (c ∷ cs) = told_of m ∷ pile_replies (behind_call m c) cs
+-- answers that the contracts of next and look allow, call by call, on a pile that means m
+unfoldable pub Allowed : Meaning → List PileCall → List Answer → Type 0
+Allowed m [] [] = Unit {0}
+Allowed m [] (r ∷ rs) = ⊥
+Allowed m (c ∷ cs) [] = ⊥
+Allowed m (Takes ∷ cs) (r ∷ rs) = (n : Meaning) × Next m.items m.ending r n.items n.ending × Allowed n cs rs
+Allowed m (Looks ∷ cs) (r ∷ rs) = Look m.items m.ending r × Allowed m cs rs
 
 -- agreeing
 
@@ -129,7 +127,7 @@ ItemsAgree shifted d x y =
 abbrev pub FaultsAgree : Bool → Amounts → ReadFault → ReadFault → Type 0
 FaultsAgree shifted d f g = (f.kind ≡ g.kind) × SpansAgree shifted d f.span g.span
 
-abbrev pub AnswersAgree : Bool → Amounts → Result (Option Item) ReadFault → Result (Option Item) ReadFault → Type 0
+abbrev pub AnswersAgree : Bool → Amounts → Answer → Answer → Type 0
 AnswersAgree shifted d (Ok (Some x)) (Ok (Some y)) = ItemsAgree shifted d x y
 AnswersAgree shifted d (Ok (Some x)) (Ok None) = ⊥
 AnswersAgree shifted d (Ok (Some x)) (Err g) = ⊥
@@ -148,7 +146,7 @@ AllAgree R (x ∷ xs) [] = ⊥
 AllAgree R (x ∷ xs) (y ∷ ys) = R x y × AllAgree R xs ys
 
 -- a reply, with the text of its piece in the template t
-abbrev pub answer_in : List ℕ → Result (Option Piece) ReadFault → Result (Option Item) ReadFault
+abbrev pub answer_in : List ℕ → Result (Option Piece) ReadFault → Answer
 answer_in t (Ok (Some p)) = Ok (Some (item_in t p))
 answer_in t (Ok None) = Ok None
 answer_in t (Err f) = Err f
@@ -164,7 +162,7 @@ RepliesAgree d t u (Rests x) (Rests y) = x ≡ y
 pub record Run : Type 0 where
   pub state : LexerState
   pub template : List ℕ
-  pub calls : List Ask
+  pub calls : List Asked
 
 -- where it leaves the reader
 abbrev pub left_at : Config → Run → View
@@ -182,7 +180,6 @@ pub record BothRest (os : List Opening) (s : Config) (r q : Run) : Type 0 where
 abbrev pub Resting : List Opening → Config → Run → Run → Type 0
 Resting os s r q =
     BothRest os s r q → (d : Amounts)
-    × ((cs : List Ask) → AllLawful os cs → AllAgree (RepliesAgree d r.template q.template) (replies s (left_at s r) cs) (replies s (left_at s q) cs))
-    × ((ls : List Layer) (cs : List Call) → AllAgree (AnswersAgree (has_shift ls) d)
-        (pile_replies (pile_over ls (meaning_of os s r.template (left_at s r))) cs)
-        (pile_replies (pile_over ls (meaning_of os s q.template (left_at s q))) cs))
+    × ((cs : List Asked) → AllLawful os cs → AllAgree (RepliesAgree d r.template q.template) (replies s (left_at s r) cs) (replies s (left_at s q) cs))
+    × ((ls : List Layer) (cs : List PileCall) (xs ys : List Answer) → Allowed (pile_over ls (meaning_of os s r.template (left_at s r))) cs xs
+      → Allowed (pile_over ls (meaning_of os s q.template (left_at s q))) cs ys → AllAgree (AnswersAgree (has_shift ls) d) xs ys)

@@ -1,0 +1,16 @@
+pub mod Whites
+pub mod Behind
+pub mod Gaps
+pub mod Tags
+pub mod Texts
+pub mod Naming
+pub mod Reached
+pub mod Covered
+pub mod Words
+pub mod Splits
+pub mod Amounts
+pub mod Piles
+pub mod Pairs
+pub mod Resting
+pub mod Driven
+pub mod Promises

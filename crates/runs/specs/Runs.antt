@@ -1,0 +1,75 @@
+-- What a run answers.
+use Rattle.std.specs.Prelude.{◌≡◌, ℕ, ◌≤◌, ◌⊎◌, List, [], map, reverse, length, take, Ok, Err, Result, Vec, vec_items}
+use Rattle.std.specs.declared.alloc.Global.{Global}
+use Rattle.finder.specs.Finding.{blank_line}
+use Rattle.utf8.specs.Utf8.{prefix}
+use Rattle.syntax.specs.declared.settings.Settings.{Settings}
+use Rattle.syntax.specs.Openings.{openings_of}
+use Rattle.rules.specs.declared.LexerState.{LexerState}
+use Rattle.rules.specs.declared.LexerState.TheVariants.{Template as InTemplate}
+use Rattle.rules.specs.Bytes.{behind_at, line_before}
+use Rattle.rules.specs.Config.{Config, config_of}
+use Rattle.rules.specs.Reading.{in_expression}
+use Rattle.rules.specs.Tags.{dot_behind}
+use Rattle.reader.specs.declared.fault.OpenFault.{OpenFault}
+use Rattle.reader.specs.declared.reader.Reader.{Reader}
+use Rattle.reader.specs.Opens.{max_len, Refuses}
+use Rattle.reader.specs.Views.{View, view_of, config, unread}
+use Rattle.runs.specs.declared.Mode.{Mode}
+use Rattle.runs.specs.declared.Mode.TheVariants.{Template, Expression}
+use Rattle.runs.specs.declared.Reply.{Reply}
+use Rattle.runs.specs.declared.fault.RunFault.{RunFault}
+use Rattle.runs.specs.declared.fault.RunFault.TheVariants.{Open, NoMemory}
+use Rattle.runs.specs.Calls.{Asked, replies, served, AllLawful}
+use Rattle.runs.specs.Whole.{Whole}
+use Rattle.runs.specs.Named.{Named}
+use Rattle.runs.specs.Resting.{Run, Resting}
+
+-- where a reading starts: a template in text, and an expression inside a variable
+abbrev pub state_of : Mode → LexerState
+state_of Template = InTemplate
+state_of Expression = in_expression
+
+-- a template that is opened
+abbrev pub Passes : List ℕ → Type 0
+Passes t = (length t ≤ max_len) × (prefix t ≡ length t)
+
+-- what opening answers: a reader of the template of which nothing is read, or why there is none
+abbrev pub Opens : Settings → LexerState → List ℕ → Result Reader OpenFault → Type 0
+Opens st m t (Ok r) = Passes t × (config r ≡ config_of st) × (view_of r ≡ unread (config_of st) m t)
+Opens st m t (Err f) = Refuses t f
+
+-- what calls on a reader answer: one reply for each
+abbrev pub Drives : Config → View → List Asked → Result (Vec Reply Global) RunFault → Type 0
+Drives s v cs (Ok rs) = vec_items rs ≡ replies s v cs
+Drives s v cs (Err (Open f)) = ⊥
+Drives s v cs (Err NoMemory) = Unit {0}
+
+-- what a run answers: the refusal of opening, exactly if there is one, or what the calls tell one after the other; want of memory says that the template passes
+abbrev pub Runs : Config → LexerState → List ℕ → List Asked → Result (Vec Reply Global) RunFault → Type 0
+Runs s m t cs (Ok rs) = Passes t × (vec_items rs ≡ replies s (unread s m t) cs)
+Runs s m t cs (Err (Open f)) = Refuses t f
+Runs s m t cs (Err NoMemory) = Passes t
+
+-- a run of a template or an expression that is not too long
+abbrev pub Starts : Run → Type 0
+Starts r = ((r.state ≡ InTemplate) ⊎ (r.state ≡ in_expression)) × (length r.template ≤ max_len)
+
+-- from the place i of t it is the same to look back over the bytes that are kept, those since the last LF, and over all of them
+abbrev pub LooksBack : List ℕ → ℕ → Type 0
+LooksBack t i =
+    (blank_line (behind_at t i) ≡ blank_line (reverse (take i t))) × (line_before (behind_at t i) [] ≡ line_before (reverse (take i t)) [])
+    × (dot_behind (behind_at t i) ≡ dot_behind (reverse (take i t)))
+
+-- the promises of a run by lawful finders: its replies are those of the rules, whichever finder serves each call; its pieces are the template, nothing lost, doubled
+-- or invented; they are what their kinds say; and from a resting point on no other run under the same settings tells anything else
+pub record Promises (st : Settings) (m : LexerState) (t : List ℕ) (cs : List Asked) (rs : List Reply) : Type 0 where
+  pub answers : rs ≡ replies (config_of st) (unread (config_of st) m t) (map (served (openings_of st)) cs)
+  pub whole : Whole t rs
+  pub named : Named (openings_of st) (config_of st) t rs
+  pub resting : (q : Run) → Starts q → Resting (openings_of st) (config_of st) (record { state = m; template = t; calls = cs }) q
+
+-- a run by lawful finders that is answered keeps them
+abbrev pub Promised : Settings → LexerState → List ℕ → List Asked → Result (Vec Reply Global) RunFault → Type 0
+Promised st m t cs (Ok rs) = AllLawful (openings_of st) cs → Promises st m t cs (vec_items rs)
+Promised st m t cs (Err f) = Unit {0}
