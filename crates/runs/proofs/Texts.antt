@@ -13,7 +13,6 @@ use Rattle.spaces.specs.Spaces.{white_space}
 use Rattle.spaces.proofs.Lines.{line_told}
 use Rattle.spaces.proofs.Runs.{all_none, run_longest as white_longest}
 use Rattle.pieces.specs.declared.fault.FaultKind.TheVariants.{UnendedRaw}
-use Rattle.rules.specs.declared.EndRaw.{EndRaw}
 use Rattle.rules.specs.declared.Pending.{Pending}
 use Rattle.rules.specs.declared.Pending.TheVariants.{Nothing, Trim, Tail, Marker, RawBody, RawClose}
 use Rattle.rules.specs.declared.whitespace.Whitespace.{Whitespace}
@@ -22,11 +21,13 @@ use Rattle.rules.specs.Config.{Config, white}
 use Rattle.rules.specs.Reading.{left_len}
 use Rattle.rules.specs.Shapes.{held}
 use Rattle.rules.specs.State.{Verdict, fault}
-use Rattle.rules.specs.Texts.{lead, Basic, basic_tag, raw_name, closer_at, Far, away, find_closer, raw_text_by, raw_body, closing_sign, comment_by, comment, line_comment_here, block_by, opened, gap_then, lead_then, opening_sign, met, real, AllReal, text, trimmed, text_verdict}
+use Rattle.rules.specs.Texts.{lead, Basic, basic_tag, raw_name, closer_at, Far, find_closer, raw_text_by, raw_body, closing_sign, comment_by, comment, line_comment_here, block_by, opened, gap_then, lead_then, opening_sign, met, real, AllReal, text, trimmed, text_verdict}
 use Rattle.rules.proofs.Lengths.{white_le}
 use Rattle.rules.proofs.Outside.{lead_le, opening_sign_le, ClosesFar, find_closer_le}
 use Rattle.rules.proofs.Runs.{run_longest}
 use Rattle.runs.specs.Named.{NoOpening}
+use Rattle.raws.specs.Closers.{FirstCloser}
+use Rattle.raws.proofs.Found.{find_first}
 use Rattle.runs.proofs.Whites.{end_passes, lead_passes}
 use Rattle.runs.proofs.Behind.{found_left}
 use Rattle.runs.proofs.Gaps.{MarkedAt, WaitsAt, Holds, tail_waits, left_has, white_named}
@@ -36,18 +37,12 @@ abbrev ClosesAt : Config → List ℕ → Option Far → Type 0
 ClosesAt s xs None = Unit {0}
 ClosesAt s xs (Some r) = closer_at s (drop r.0 xs) ≡ Some r.1
 
-away_closes : (s : Config) (x : ℕ) (xs : List ℕ) (r : Option Far) → ClosesAt s xs r → ClosesAt s (x ∷ xs) (away r)
-away_closes s x xs None h = tt
-away_closes s x xs (Some r) h = h
-
-closes_by : (s : Config) (x : ℕ) (xs : List ℕ) (o : Option EndRaw) → closer_at s (x ∷ xs) ≡ o → ClosesAt s xs (find_closer s xs) → ClosesAt s (x ∷ xs) (elim o [ Some r ↦ Some (0, r) | None ↦ away (find_closer s xs) ])
-closes_by s x xs None e h = away_closes s x xs (find_closer s xs) h
-closes_by s x xs (Some r) e h = e
+closes_of : (s : Config) (xs : List ℕ) (r : Option Far) → FirstCloser s xs r → ClosesAt s xs r
+closes_of s xs None h = tt
+closes_of s xs (Some r) h = h.0
 
 find_closes : (s : Config) (xs : List ℕ) → ClosesAt s xs (find_closer s xs)
-unfolding find_closer
-find_closes s [] = tt
-find_closes s (x ∷ xs) = closes_by s x xs (closer_at s (x ∷ xs)) refl (find_closes s xs)
+find_closes s xs = closes_of s xs (find_closer s xs) (find_first s xs)
 
 module _ (os : List Opening) (s : Config) (t : List ℕ) where
   -- what the cut leaves
