@@ -182,4 +182,4 @@ Resting os s r q =
     BothRest os s r q → (d : Amounts)
     × ((cs : List Asked) → AllLawful os cs → AllAgree (RepliesAgree d r.template q.template) (replies s (left_at s r) cs) (replies s (left_at s q) cs))
     × ((ls : List Layer) (cs : List PileCall) (xs ys : List Answer) → Allowed (pile_over ls (meaning_of os s r.template (left_at s r))) cs xs
-      → Allowed (pile_over ls (meaning_of os s q.template (left_at s q))) cs ys → AllAgree (AnswersAgree (has_shift ls) d) xs ys)
+    → Allowed (pile_over ls (meaning_of os s q.template (left_at s q))) cs ys → AllAgree (AnswersAgree (has_shift ls) d) xs ys)

@@ -17,15 +17,14 @@ loop-ask-preserved g c =
     let openings = g.F.Finder.openings in
     let w = view_of c.loop-ask.reader in
     let e = c.loop-ask.invariant.0 in
-    let d = ap (calls_of openings) (drop_more asks i a c.loop-ask-test.true ∙ ap (λ x. x ∷ drop (i + 1) asks) (sym c.ask-item.is)) in
-    (
+    let d = ap (calls_of openings) (drop_more asks i a c.loop-ask-test.true ∙ ap (λ x. x ∷ drop (i + 1) asks) (sym c.ask-item.is)) in (
       ap config_of c.answer.ensures.settings ∙ e,
       driven_more (config c.args.reader) w (view_of c.answer.new.reader) (call_of openings a) (calls_of openings (drop i asks)) (calls_of openings (drop (i + 1) asks)) c.answer.result
-      (vec_items c.loop-ask.replies) (vec_items c.push.new.self) (replies (config c.args.reader) (view_of c.args.reader) (calls_of openings asks)) d
-      (c.answer.ensures.value ∙ ap (λ s. reply s w (call_of openings a)) e)
-      (c.answer.ensures.view ∙ ap (λ s. behind_call s w (call_of openings a)) e)
-      c.in_ok-push.ensures.items
-      c.loop-ask.invariant.1
+          (vec_items c.loop-ask.replies) (vec_items c.push.new.self) (replies (config c.args.reader) (view_of c.args.reader) (calls_of openings asks)) d
+          (c.answer.ensures.value ∙ ap (λ s. reply s w (call_of openings a)) e)
+          (c.answer.ensures.view ∙ ap (λ s. behind_call s w (call_of openings a)) e)
+          c.in_ok-push.ensures.items
+          c.loop-ask.invariant.1,
     )
 
 pub returns : goal.returns
