@@ -28,6 +28,7 @@ use Rattle.rules.proofs.Runs.{run_longest}
 use Rattle.runs.specs.Named.{NoOpening}
 use Rattle.raws.specs.Closers.{FirstCloser}
 use Rattle.raws.proofs.Found.{find_first}
+use Rattle.raws.proofs.Spells.{spelt_by, closer_spelt_by}
 use Rattle.runs.proofs.Whites.{end_passes, lead_passes}
 use Rattle.runs.proofs.Behind.{found_left}
 use Rattle.runs.proofs.Gaps.{MarkedAt, WaitsAt, Holds, tail_waits, left_has, white_named}
@@ -70,7 +71,7 @@ module _ (os : List Opening) (s : Config) (t : List ℕ) where
 
       block_holds : (n : ℕ) (r : Option Basic) → basic_tag raw_name s.block_end (drop (i + n) left) ≡ r → MarkedAt os Block left i n → H (block_by n r)
       block_holds n None f m = (tt, tt, tt)
-      block_holds n (Some b) f m = (tt, (n, m, b, f, omega arith), tt)
+      block_holds n (Some b) f m = (tt, (n, m, b, f, spelt_by raw_name s.block_end (drop (i + n) left) (Some b) (sym f), omega arith), tt)
 
       comment_holds : (n : ℕ) (r : Option ℕ) → First (Stands s.comment_end (drop (i + n) left)) r → MarkedAt os Comment left i n → H (comment_by s n xs r)
       comment_holds n None f m = tt
@@ -147,4 +148,4 @@ module _ (os : List Opening) (s : Config) (t : List ℕ) where
     waiting_holds a b (Tail n) h w = (tt, white_named os s t i n h (subst (λ k. AllPass (white s) (take k (drop i left))) w (end_passes s b (drop i left))), tt)
     waiting_holds a b (Marker g m n) h w = gap_holds (drop i left) refl g m n h w
     waiting_holds a b (RawBody g) h w = raw_holds (drop i left) refl g (behind_at t i) (find_closer s (drop i left)) (find_closer_le s (drop i left)) (find_closes s (drop i left))
-    waiting_holds a b (RawClose n g) h w = (tt, (w.0, w.1, ap (λ k. i + k) (sym w.2)), tail_waits os s left (i + n) g (drop n (drop i left)) (drop-drop n i left))
+    waiting_holds a b (RawClose n g) h w = (tt, (w.0, w.1, closer_spelt_by s (drop i left) (Some w.0) (sym w.1), ap (λ k. i + k) (sym w.2)), tail_waits os s left (i + n) g (drop n (drop i left)) (drop-drop n i left))

@@ -12,7 +12,9 @@ use Rattle.pieces.specs.declared.kind.Kind.TheVariants.{Text, RawText, VariableS
 use Rattle.rules.specs.Bytes.{sign_at, sign_len, in_line, LongestRun}
 use Rattle.rules.specs.Config.{Config, white}
 use Rattle.rules.specs.Reading.{left_len}
-use Rattle.rules.specs.Texts.{basic_tag, raw_name, closer_at}
+use Rattle.rules.specs.declared.EndRaw.{EndRaw}
+use Rattle.rules.specs.Texts.{Basic, basic_tag, raw_name, closer_at}
+use Rattle.raws.specs.Closers.{TagSpelt, CloserSpelt}
 use Rattle.runs.specs.Whole.{Spans, Along, pieces_of}
 use Rattle.runs.specs.declared.Reply.{Reply}
 
@@ -38,11 +40,13 @@ IsLineComment os u i j =
 
 -- the tag that begins a raw block: an opening with its sign, then blanks, `raw`, blanks, an optional sign and the block end
 abbrev pub IsRawOpen : List Opening → Config → List ℕ → ℕ → ℕ → Type 0
-IsRawOpen os s u i j = (n : ℕ) × OpensAt os BlockMarker u i n × (t : _) × (basic_tag raw_name s.block_end (drop (i + n) u) ≡ Some t) × (j ≡ i + n + t.0)
+IsRawOpen os s u i j =
+    (n : ℕ) × OpensAt os BlockMarker u i n
+    × (t : Basic) × (basic_tag raw_name s.block_end (drop (i + n) u) ≡ Some t) × TagSpelt raw_name s.block_end (drop (i + n) u) (Some t) × (j ≡ i + n + t.0)
 
 -- the tag that ends it: the block start with a sign, then blanks, `endraw`, blanks, an optional sign and the block end
 abbrev pub IsRawClose : Config → List ℕ → ℕ → ℕ → Type 0
-IsRawClose s u i j = (r : _) × (closer_at s (drop i u) ≡ Some r) × (j ≡ i + r.len)
+IsRawClose s u i j = (r : EndRaw) × (closer_at s (drop i u) ≡ Some r) × CloserSpelt s (drop i u) (Some r) × (j ≡ i + r.len)
 
 -- the piece of this kind from i to j is what its kind says; u is what the cut leaves of the template t.
 -- Of tokens that are not text their rules say it; every other byte is of one of these forms.
