@@ -1,0 +1,141 @@
+// Reads on from each resting point of the template in standard input, as if what stands there were a template of its own, and tells whether both readings
+// agree from there on.
+
+#![tactic(auto)]
+
+mod reading;
+mod seeker;
+
+ghost use Rattle.std.specs.Prelude.{◌≤◌, length};
+
+use anyhow::Context;
+use byte_search::after;
+use finders::StartMarkerMatcher;
+use places::Place;
+use reader::OpenFault;
+use reading::{Reading, Shared, piece_of};
+use runs::{Ask, Mode, Reply, RunFault, replies};
+use seeker::Seeker;
+use std::alloc::Global;
+use std::io;
+use std::io::Read;
+use syntax::{Draft, Settings};
+
+// The greatest number of bytes that a template may have here, since it is read as often as it has resting points.
+const MAX_LEN: usize = 65_536;
+
+// How readers are asked: the settings, and the calls.
+#[derive(Clone, Copy)]
+struct Plan<'p> {
+    settings: &'p Settings,
+    asks: &'p [Ask<Seeker<'p>>],
+}
+
+// Whether a reader rests and what comes next are asked by turns, so many times, and the finders serve by turns.
+fn turns<'m>(
+    heap: Global,
+    count: usize,
+    matcher: &'m StartMarkerMatcher,
+) -> anyhow::Result<Vec<Ask<Seeker<'m>>>> {
+    let mut asks = Vec::new(heap);
+    for turn in 0..count {
+        let seeker = match turn % 2 {
+            0 => Seeker::Default,
+            _ => Seeker::Matcher(matcher),
+        };
+        asks.push(Ask::Rest)?;
+        asks.push(Ask::Next(seeker))?;
+    }
+    Ok(asks)
+}
+
+// What is told of a template that is not too long here.
+fn read(heap: Global, plan: Plan, template: &[u8]) -> Result<Vec<Reply>, RunFault> {
+    if template.len() > MAX_LEN {
+        return Err(RunFault::Open(OpenFault::TooLong));
+    }
+    replies(heap, plan.settings, Mode::Template, template, plan.asks)
+}
+
+// Prints how far both readings agree from a resting point on.
+fn show(rt: &impl Print, start: Place, shared: Shared) -> io::Result<()> {
+    print!(rt; "{start} ")?;
+    match shared.is_all {
+        true => print!(rt; "agrees")?,
+        false => print!(rt; "DIFFERS at {}", shared.reached)?,
+    }
+    println!(rt;
+        ": {} pieces, {} bytes of text",
+        shared.pieces, shared.bytes
+    )
+}
+
+// Reads on from the place where a reading rests, behind so many of its replies, each call served by the other finder: whether both readings agree.
+fn resume(
+    rt: &(impl AllocGlobal + Print),
+    plan: Plan,
+    ours: Reading,
+    behind: usize,
+    start: Place,
+) -> anyhow::Result<bool>
+    requires { behind ≤ length ours.replies.now }
+{
+    let asks = plan.asks.get(behind + 2..ours.replies.len() + 2);
+    let asks = asks.context("more is told than is asked")?;
+    let template = after(ours.template, start.offset as usize);
+    let again = read(rt.alloc(), Plan { asks, ..plan }, template)?;
+    let other = Reading {
+        template,
+        replies: again.as_slice(),
+    };
+    let shared = ours.behind(behind).shared(&other, start);
+    show(rt, start, shared)?;
+    Ok(shared.is_all)
+}
+
+// Reads on from each resting point of a reading.
+fn resume_all(rt: &(impl AllocGlobal + Print), plan: Plan, ours: Reading) -> anyhow::Result<()> {
+    let mut reached = Place::start();
+    let mut points = 0u64;
+    let mut differing = 0u64;
+    for (behind, reply) in ours.replies.iter().enumerate() {
+        if let Some(piece) = piece_of(reply) {
+            reached = piece.span.end;
+        }
+        if *reply == Reply::Rests(true) {
+            points = points.saturating_add(1);
+            let agrees = resume(rt, plan, ours, behind, reached)?;
+            differing = differing.saturating_add(u64::from(!agrees));
+        }
+    }
+    match differing {
+        0 => println!(rt; "{points} resting points: all agree")?,
+        _ => println!(rt; "{points} resting points: {differing} DIFFER")?,
+    }
+    Ok(())
+}
+
+// Reads a template to its end, and then on from each of its resting points.
+fn run(rt: &(impl AllocGlobal + Input + Print)) -> anyhow::Result<()> {
+    let mut input = Vec::new(rt.alloc());
+    rt.reader().read_to_end(&mut input)?;
+    let template = input.as_slice();
+    let settings = Draft::new().build()?;
+    let matcher = StartMarkerMatcher::new(&settings);
+    // A template of n bytes has at most 2n + 2 pieces and then its ending. The last turn is for the second reading, which begins a turn later.
+    let count = 2 * template.len().min(MAX_LEN) + 4;
+    let asks = turns(rt.alloc(), count, &matcher)?;
+    let plan = Plan {
+        settings: &settings,
+        asks: asks.as_slice(),
+    };
+    match read(rt.alloc(), plan, template) {
+        Ok(told) => resume_all(rt, plan, Reading::until_end(template, told.as_slice())),
+        Err(RunFault::Open(fault)) => Ok(println!(rt; "refused: {fault}")?),
+        Err(fault) => Err(fault.into()),
+    }
+}
+
+fn main(rt: HostRuntime) -> anyhow::Result<()> {
+    run(&rt)
+}
