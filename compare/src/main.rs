@@ -1,5 +1,5 @@
-// Compares the original's decoder of string escapes, its finders and its tokenizer with ours, and
-// records the original's answers.
+// Compares the original's decoder of string escapes, its finders and its tokenizer with ours, tests the
+// law of resting points, and records the original's answers.
 
 mod find;
 #[allow(dead_code)]
@@ -22,6 +22,7 @@ const USAGE: &str = "\
 compare unescape [--exhaustive LENGTH] [--random COUNT] [--seed SEED]
 compare find --program PATH [--exhaustive LENGTH] [--random COUNT] [--seed SEED]
 compare read [--program PATH] [--exhaustive LENGTH] [--random COUNT] [--seed SEED] [--large] [FILE or FOLDER ...]
+compare rest --program PATH [--random COUNT] [--seed SEED]
 compare read-cases [--random COUNT] [--seed SEED]
 compare read-answers
 compare record [--count COUNT] [--seed SEED]
@@ -80,6 +81,13 @@ fn run(mut words: Vec<String>) -> Result<bool, String> {
                 files: no_options(words)?,
             };
             read::run(&settings)
+        }
+        "rest" => {
+            let program = option(&mut words, "--program")?.ok_or("no --program is named")?;
+            let random = number(&mut words, "--random", 20_000)? as usize;
+            let seed = number(&mut words, "--seed", 1)?;
+            let [] = files(words)?;
+            read::rest::run(&program, random, seed)
         }
         "read-cases" => {
             let random = number(&mut words, "--random", 1_000)? as usize;

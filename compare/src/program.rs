@@ -1,9 +1,25 @@
-// Our programs: a line of standard input is a question, a line of standard output its answer.
+// Our programs. Most answer questions: a line of standard input is a question, a line of standard output its answer.
 
 use std::fmt::{Display, Write as _};
 use std::io::Write as _;
-use std::process::{Command, Stdio};
+use std::process::{Command, Output, Stdio};
 use std::thread;
+
+// What the program writes for this input, and how it ends.
+pub fn output(program: &str, input: &[u8]) -> Result<Output, String> {
+    let mut child = Command::new(program)
+        .stdin(Stdio::piped())
+        .stdout(Stdio::piped())
+        .spawn()
+        .map_err(|error| format!("cannot run {program}: {error}"))?;
+    let mut stdin = child.stdin.take().unwrap();
+    let output = thread::scope(|scope| {
+        // Where the program ends early this fails, and lines are missing.
+        scope.spawn(move || drop(stdin.write_all(input)));
+        child.wait_with_output()
+    });
+    output.map_err(|error| format!("cannot read from {program}: {error}"))
+}
 
 // The program's lines for these questions, and what is wrong with its output as a whole.
 pub fn lines<Q: Display>(
@@ -14,18 +30,7 @@ pub fn lines<Q: Display>(
     for asked in questions {
         writeln!(input, "{asked}").unwrap();
     }
-    let mut child = Command::new(program)
-        .stdin(Stdio::piped())
-        .stdout(Stdio::piped())
-        .spawn()
-        .map_err(|error| format!("cannot run {program}: {error}"))?;
-    let mut stdin = child.stdin.take().unwrap();
-    let output = thread::scope(|scope| {
-        // Where the program ends early this fails, and lines are missing.
-        scope.spawn(move || drop(stdin.write_all(input.as_bytes())));
-        child.wait_with_output()
-    });
-    let output = output.map_err(|error| format!("cannot read from {program}: {error}"))?;
+    let output = output(program, input.as_bytes())?;
     let text = String::from_utf8_lossy(&output.stdout);
     let lines: Vec<String> = text.lines().map(str::to_string).collect();
     let complaint = if !output.status.success() {

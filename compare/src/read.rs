@@ -3,6 +3,7 @@
 mod question;
 pub mod record;
 mod reference;
+pub mod rest;
 mod seen;
 mod templates;
 

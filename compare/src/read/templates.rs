@@ -74,6 +74,16 @@ const WHITE: [&str; 14] = [
 
 const BLANKS: [&str; 8] = ["", "", "", " ", " ", "\t", "  ", "\n"];
 
+// Tags whose trims take a line end, mostly up to the next line's begin.
+const TRIMMED_LINES: [&str; 6] = [
+    "{{ a -}}\n",
+    "{% a -%}\r\n",
+    "{#-#}\n",
+    "{# a -#} \n\n",
+    "{% raw %}{{\n{% endraw -%}\n",
+    "{{ a -}}\n ",
+];
+
 const OPERATORS: [&str; 27] = [
     "//", "**", "==", "!=", ">=", "<=", "+", "-", "*", "/", "%", ".", ",", ":", "~", "|", "=", ">",
     "<", "===", "***", "<>", "+-", "!", "&", "?", "..",
@@ -269,6 +279,19 @@ impl Maker {
         let delimiters = self.any_delimiters();
         let flags = Flags::from_number(self.random.below(8));
         let expression = self.chance(8);
+        let template = self.template(&delimiters, |made| match expression {
+            true => made.expression(),
+            false => made.template(),
+        });
+        question(delimiters, flags, expression, &template)
+    }
+
+    // A template under the defaults that often trims up to a line's end.
+    pub fn page(&mut self) -> Vec<u8> {
+        self.template(&bytes(&DEFAULTS), |made| made.page())
+    }
+
+    fn template(&mut self, delimiters: &Delimiters, make: impl FnOnce(&mut Made)) -> Vec<u8> {
         let mut made = Made {
             maker: self,
             set: std::array::from_fn(|which| {
@@ -278,10 +301,7 @@ impl Maker {
             }),
             text: String::new(),
         };
-        match expression {
-            true => made.expression(),
-            false => made.template(),
-        }
+        make(&mut made);
         let mut text = made.text;
         self.lengthen(&mut text);
         self.shorten(&mut text);
@@ -291,7 +311,7 @@ impl Maker {
             let damage = self.pick(&DAMAGE);
             template.splice(at..at, damage.iter().copied());
         }
-        question(delimiters, flags, expression, &template)
+        template
     }
 
     // Half of the time the defaults or those with line prefixes, else telling ones or random ones.
@@ -378,6 +398,18 @@ impl Made<'_> {
     fn template(&mut self) {
         for _ in 0..1 + self.below(self.maker.parts) {
             self.part();
+        }
+        if self.chance(3) {
+            self.put(&LINE_ENDS);
+        }
+    }
+
+    fn page(&mut self) {
+        for _ in 0..1 + self.below(self.maker.parts) {
+            self.part();
+            if self.chance(2) {
+                self.put(&TRIMMED_LINES);
+            }
         }
         if self.chance(3) {
             self.put(&LINE_ENDS);

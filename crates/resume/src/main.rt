@@ -1,5 +1,5 @@
-// Reads on from each resting point of the template in standard input, as if what stands there were a template of its own, and tells whether both readings
-// agree from there on.
+// Reads on from each resting point of the template in standard input, as if what stands there were a template of its own, and tells
+// whether both readings agree from there on.
 
 #![tactic(auto)]
 

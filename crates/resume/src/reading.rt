@@ -64,7 +64,7 @@ impl<'t> Reading<'t> {
         after(until(self.template, text.end as usize), text.start as usize)
     }
 
-    // Whether a reply tells what another does that is of another reading: kind, text and value, the ending, or whether it rests. Places are told otherwise.
+    // Whether a reply tells what one of another reading does: kind, text and value, the ending, or whether it rests. Places may differ.
     fn tells(&self, reply: &Reply, other: &Reading, again: &Reply) -> bool {
         match (reply, again) {
             (Reply::Told(Ok(Some(a))), Reply::Told(Ok(Some(b)))) => {
