@@ -14,7 +14,7 @@ use finders::StartMarkerMatcher;
 use places::Place;
 use reader::OpenFault;
 use reading::{Reading, Shared, piece_of};
-use runs::{Ask, Mode, Reply, RunFault, replies};
+use runs::{Ask, Call, Mode, Reply, drive};
 use seeker::Seeker;
 use std::alloc::Global;
 use std::io;
@@ -49,12 +49,33 @@ fn turns<'m>(
     Ok(asks)
 }
 
-// What is told of a template that is not too long here.
-fn read(heap: Global, plan: Plan, template: &[u8]) -> Result<Vec<Reply>, RunFault> {
+// What is told of a template that is not too long here; or why it is not opened.
+fn read(
+    heap: Global,
+    plan: Plan,
+    template: &[u8],
+) -> anyhow::Result<Result<Vec<Reply>, OpenFault>> {
     if template.len() > MAX_LEN {
-        return Err(RunFault::Open(OpenFault::TooLong));
+        return Ok(Err(OpenFault::TooLong));
     }
-    replies(heap, plan.settings, Mode::Template, template, plan.asks)
+    let mut calls = Vec::new(heap);
+    for ask in plan.asks {
+        calls.push(Call {
+            ask: *ask,
+            reply: None,
+        })?;
+    }
+    let opened = drive(
+        plan.settings,
+        Mode::Template,
+        template,
+        calls.as_mut_slice(),
+    );
+    let mut replies = Vec::new(heap);
+    for reply in calls.iter().filter_map(|call| call.reply) {
+        replies.push(reply)?;
+    }
+    Ok(opened.map(|()| replies))
 }
 
 // Prints how far both readings agree from a resting point on.
@@ -83,7 +104,7 @@ fn resume(
     let asks = plan.asks.get(behind + 2..ours.replies.len() + 2);
     let asks = asks.context("more is told than is asked")?;
     let template = after(ours.template, start.offset as usize);
-    let again = read(rt.alloc(), Plan { asks, ..plan }, template)?;
+    let again = read(rt.alloc(), Plan { asks, ..plan }, template)??;
     let other = Reading {
         template,
         replies: again.as_slice(),
@@ -129,10 +150,9 @@ fn run(rt: &(impl AllocGlobal + Input + Print)) -> anyhow::Result<()> {
         settings: &settings,
         asks: asks.as_slice(),
     };
-    match read(rt.alloc(), plan, template) {
+    match read(rt.alloc(), plan, template)? {
         Ok(told) => resume_all(rt, plan, Reading::until_end(template, told.as_slice())),
-        Err(RunFault::Open(fault)) => Ok(println!(rt; "refused: {fault}")?),
-        Err(fault) => Err(fault.into()),
+        Err(fault) => Ok(println!(rt; "refused: {fault}")?),
     }
 }
 

@@ -1,5 +1,5 @@
 -- What a run promises.
-use Rattle.std.proofs.Common.{◌≡◌, ℕ, false, List, [], ◌∷◌, map, take, refl, ap, ◌∙◌, subst, sym, Ok, Err, Result, Vec, Global, vec_items, ◌⊎◌, inl, inr, ⊎_elim}
+use Rattle.std.proofs.Common.{◌≡◌, ℕ, false, List, [], ◌∷◌, map, take, refl, ap, ◌∙◌, subst, sym, Some, Ok, ◌⊎◌, inl, inr, ⊎_elim}
 use Rattle.finder.specs.Finding.{Opening}
 use Rattle.syntax.specs.declared.settings.Settings.{Settings}
 use Rattle.syntax.specs.Openings.{openings_of}
@@ -15,10 +15,10 @@ use Rattle.reader.proofs.Tells.{same_tell}
 use Rattle.runs.specs.declared.Ask.TheVariants.{Next, Rest}
 use Rattle.runs.specs.declared.Mode.{Mode}
 use Rattle.runs.specs.declared.Mode.TheVariants.{Template, Expression}
+use Rattle.runs.specs.declared.Call.{Call}
 use Rattle.runs.specs.declared.Reply.{Reply}
 use Rattle.runs.specs.declared.Reply.TheVariants.{Told}
-use Rattle.runs.specs.declared.fault.RunFault.{RunFault}
-use Rattle.runs.specs.Calls.{Asked, reply, behind_call, replies, served, LawfulCall, AllLawful}
+use Rattle.runs.specs.Calls.{Asked, calls_of, reply, behind_call, replies, served, LawfulCall, AllLawful}
 use Rattle.runs.specs.Named.{Named}
 use Rattle.runs.specs.Resting.{Run}
 use Rattle.runs.specs.Runs.{state_of, Opens, Drives, Starts, Promises, Promised}
@@ -65,9 +65,11 @@ starting_in Template = inl refl
 starting_in Expression = inr refl
 
 -- what the calls on a reader that was opened tell
-pub promised_by : (st : Settings) (m : Mode) (t : List ℕ) (cs : List Asked) (r : Reader) (d : Result (Vec Reply Global) RunFault)
-    → Opens st (state_of m) t (Ok r) → Drives (config r) (view_of r) cs d → Promised st (state_of m) t cs d
-promised_by st m t cs r (Ok rs) o e = λ l.
-    promised st (record { state = state_of m; template = t; calls = cs }) (vec_items rs) (starting_in m, o.0.0) l
-    (e ∙ ap (λ s. replies s (view_of r) cs) o.1 ∙ ap (λ v. replies (config_of st) v cs) o.2)
-promised_by st m t cs r (Err f) o e = tt
+pub promised_by : {F : Type 0} (openings : F → List Opening) (st : Settings) (m : Mode) (t : List ℕ) (cs ds : List (Call F)) (r : Reader)
+    → Opens st (state_of m) t (Ok r) → Drives (config r) (view_of r) openings cs ds → Promised st (state_of m) t (calls_of openings cs) ds (Ok tt)
+promised_by openings st m t cs ds r o e = λ l.
+    let rs : List Reply = replies (config_of st) (unread (config_of st) (state_of m) t) (calls_of openings cs) in (
+      rs,
+      e.1 ∙ ap (λ s. map Some (replies s (view_of r) (calls_of openings cs))) o.1 ∙ ap (λ v. map Some (replies (config_of st) v (calls_of openings cs))) o.2,
+      promised st (record { state = state_of m; template = t; calls = calls_of openings cs }) rs (starting_in m, o.0.0) l refl,
+    )

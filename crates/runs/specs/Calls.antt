@@ -1,11 +1,12 @@
 -- Any list of calls on a reader, and what they tell.
-use Rattle.std.specs.Prelude.{List, [], ◌∷◌, map}
+use Rattle.std.specs.Prelude.{List, [], ◌∷◌, map, Option}
 use Rattle.std.specs.List.{AllByRecursion}
 use Rattle.finder.specs.Finding.{Opening}
 use Rattle.rules.specs.Config.{Config}
 use Rattle.rules.specs.Texts.{Same}
 use Rattle.reader.specs.Views.{View, tell}
 use Rattle.reader.specs.Rests.{rests}
+use Rattle.runs.specs.declared.Call.{Call}
 use Rattle.runs.specs.declared.Ask.{Ask}
 use Rattle.runs.specs.declared.Ask.TheVariants.{Next, Rest}
 use Rattle.runs.specs.declared.Reply.{Reply}
@@ -43,13 +44,20 @@ LawfulCall ps Rest = Unit {0}
 abbrev pub AllLawful : List Opening → List Asked → Type 0
 AllLawful ps cs = AllByRecursion (LawfulCall ps) cs
 
--- the calls that code asks for, each finder by the openings that it means
+-- the calls that code makes, each next with a finder by the openings that it means
 abbrev pub call_of : {F : Type 0} → (F → List Opening) → Ask F → Asked
 call_of openings (Next f) = Next (openings f)
 call_of openings Rest = Rest
 
-abbrev pub calls_of : {F : Type 0} → (F → List Opening) → List (Ask F) → List Asked
-calls_of openings asks = map (call_of openings) asks
+abbrev pub asks_of : {F : Type 0} → List (Call F) → List (Ask F)
+asks_of cs = map (λ c. c.ask) cs
+
+abbrev pub calls_of : {F : Type 0} → (F → List Opening) → List (Call F) → List Asked
+calls_of openings cs = map (λ c. call_of openings c.ask) cs
+
+-- the replies that stand beside them
+abbrev pub replies_of : {F : Type 0} → List (Call F) → List (Option Reply)
+replies_of cs = map (λ c. c.reply) cs
 
 -- the same calls, served by a finder of the openings os
 abbrev pub served : List Opening → Asked → Asked

@@ -2,5 +2,4 @@ pub mod Calls
 pub mod Whole
 pub mod Named
 pub mod Resting
-pub mod Faults
 pub mod Runs

@@ -1,7 +1,6 @@
 -- What a run answers.
-use Rattle.std.specs.Prelude.{◌≡◌, ℕ, ◌≤◌, ◌⊎◌, List, [], map, reverse, length, take, Ok, Err, Result, Vec, vec_items}
-use Rattle.std.specs.declared.alloc.Global.{Global}
-use Rattle.finder.specs.Finding.{blank_line}
+use Rattle.std.specs.Prelude.{◌≡◌, ℕ, ◌≤◌, ◌⊎◌, List, [], map, reverse, length, take, Some, Ok, Err, Result}
+use Rattle.finder.specs.Finding.{Opening, blank_line}
 use Rattle.utf8.specs.Utf8.{prefix}
 use Rattle.syntax.specs.declared.settings.Settings.{Settings}
 use Rattle.syntax.specs.Openings.{openings_of}
@@ -17,10 +16,9 @@ use Rattle.reader.specs.Opens.{max_len, Refuses}
 use Rattle.reader.specs.Views.{View, view_of, config, unread}
 use Rattle.runs.specs.declared.Mode.{Mode}
 use Rattle.runs.specs.declared.Mode.TheVariants.{Template, Expression}
+use Rattle.runs.specs.declared.Call.{Call}
 use Rattle.runs.specs.declared.Reply.{Reply}
-use Rattle.runs.specs.declared.fault.RunFault.{RunFault}
-use Rattle.runs.specs.declared.fault.RunFault.TheVariants.{Open, NoMemory}
-use Rattle.runs.specs.Calls.{Asked, replies, served, AllLawful}
+use Rattle.runs.specs.Calls.{Asked, replies, asks_of, calls_of, replies_of, served, AllLawful}
 use Rattle.runs.specs.Whole.{Whole}
 use Rattle.runs.specs.Named.{Named}
 use Rattle.runs.specs.Resting.{Run, Resting}
@@ -39,17 +37,14 @@ abbrev pub Opens : Settings → LexerState → List ℕ → Result Reader OpenFa
 Opens st m t (Ok r) = Passes t × (config r ≡ config_of st) × (view_of r ≡ unread (config_of st) m t)
 Opens st m t (Err f) = Refuses t f
 
--- what calls on a reader answer: one reply for each
-abbrev pub Drives : Config → View → List Asked → Result (Vec Reply Global) RunFault → Type 0
-Drives s v cs (Ok rs) = vec_items rs ≡ replies s v cs
-Drives s v cs (Err (Open f)) = ⊥
-Drives s v cs (Err NoMemory) = Unit {0}
+-- calls on a reader leave beside each ask what it tells, one after the other
+abbrev pub Drives : {F : Type 0} → Config → View → (F → List Opening) → List (Call F) → List (Call F) → Type 0
+Drives s v openings cs ds = (asks_of ds ≡ asks_of cs) × (replies_of ds ≡ map Some (replies s v (calls_of openings cs)))
 
--- what a run answers: the refusal of opening, exactly if there is one, or what the calls tell one after the other; want of memory says that the template passes
-abbrev pub Runs : Config → LexerState → List ℕ → List Asked → Result (Vec Reply Global) RunFault → Type 0
-Runs s m t cs (Ok rs) = Passes t × (vec_items rs ≡ replies s (unread s m t) cs)
-Runs s m t cs (Err (Open f)) = Refuses t f
-Runs s m t cs (Err NoMemory) = Passes t
+-- what a run answers: the refusal of opening, exactly if there is one, and then the calls are as they were; or beside each ask what it tells, one after the other
+abbrev pub Runs : {F : Type 0} → Config → LexerState → List ℕ → (F → List Opening) → List (Call F) → List (Call F) → Result Unit OpenFault → Type 0
+Runs s m t openings cs ds (Ok u) = Passes t × Drives s (unread s m t) openings cs ds
+Runs s m t openings cs ds (Err f) = Refuses t f × (ds ≡ cs)
 
 -- a run of a template or an expression that is not too long
 abbrev pub Starts : Run → Type 0
@@ -69,7 +64,7 @@ pub record Promises (st : Settings) (m : LexerState) (t : List ℕ) (cs : List A
   pub named : Named (openings_of st) (config_of st) t rs
   pub resting : (q : Run) → Starts q → Resting (openings_of st) (config_of st) (record { state = m; template = t; calls = cs }) q
 
--- a run by lawful finders that is answered keeps them
-abbrev pub Promised : Settings → LexerState → List ℕ → List Asked → Result (Vec Reply Global) RunFault → Type 0
-Promised st m t cs (Ok rs) = AllLawful (openings_of st) cs → Promises st m t cs (vec_items rs)
-Promised st m t cs (Err f) = Unit {0}
+-- a run by lawful finders keeps them: of the calls that were asked and the replies that it left
+abbrev pub Promised : {F : Type 0} → Settings → LexerState → List ℕ → List Asked → List (Call F) → Result Unit OpenFault → Type 0
+Promised st m t cs ds (Ok u) = AllLawful (openings_of st) cs → (rs : List Reply) × (replies_of ds ≡ map Some rs) × Promises st m t cs rs
+Promised st m t cs ds (Err f) = Unit {0}

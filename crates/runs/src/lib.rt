@@ -8,13 +8,9 @@ ghost use Rattle.reader.specs.Views.{view_of, config};
 ghost use Rattle.runs.specs.Calls.{call_of, calls_of, reply as reply_to, behind_call};
 ghost use Rattle.runs.specs.Runs.{state_of, Opens, Drives, Runs, Promised, LooksBack};
 
-mod fault;
-
-pub use fault::RunFault;
 use finder::Finder;
 use pieces::{Piece, ReadFault};
 use reader::{OpenFault, Reader};
-use std::alloc::Global;
 use syntax::Settings;
 
 // What is opened.
@@ -36,6 +32,13 @@ pub enum Ask<F> {
 pub enum Reply {
     Told(Result<Option<Piece>, ReadFault>),
     Rests(bool),
+}
+
+// A call: what is asked, and the reply, once it is told.
+#[derive(Clone, Copy, Debug, PartialEq, Eq)]
+pub struct Call<F> {
+    pub ask: Ask<F>,
+    pub reply: Option<Reply>,
 }
 
 // Opens a reader.
@@ -63,32 +66,26 @@ fn answer<F: Finder>(reader: &mut Reader, ask: &Ask<F>) -> Reply
 }
 
 // Asks a reader one thing after another.
-fn drive<F: Finder>(
-    heap: Global,
-    mut reader: Reader,
-    asks: &[Ask<F>],
-) -> Result<Vec<Reply>, RunFault>
-    ensures { Drives (config reader.entry) (view_of reader.entry) (calls_of F.Finder.openings asks.now) result }
+fn ask_all<F: Finder>(mut reader: Reader, calls: &mut [Call<F>])
+    ensures { Drives (config reader.entry) (view_of reader.entry) F.Finder.openings calls.old calls.new }
 {
-    let mut replies = Vec::new(heap);
-    for ask in asks {
-        replies.push(answer(&mut reader, ask))?;
+    for call in calls.iter_mut() {
+        call.reply = Some(answer(&mut reader, &call.ask));
     }
-    Ok(replies)
 }
 
-// Opens a reader, asks it one thing after another, and tells every reply.
-pub fn replies<F: Finder>(
-    heap: Global,
+// Opens a reader, makes one call after another on it, and writes each reply beside what was asked. A refusal of opening leaves the calls as they are.
+pub fn drive<F: Finder>(
     settings: &Settings,
     mode: Mode,
     template: &[u8],
-    asks: &[Ask<F>],
-) -> Result<Vec<Reply>, RunFault>
-    ensures replies { Runs (config_of settings.now) (state_of mode) template.now (calls_of F.Finder.openings asks.now) result }
-    ensures promised { Promised settings.now (state_of mode) template.now (calls_of F.Finder.openings asks.now) result }
+    calls: &mut [Call<F>],
+) -> Result<(), OpenFault>
+    ensures replies { Runs (config_of settings.now) (state_of mode) template.now F.Finder.openings calls.old calls.new result }
+    ensures promised { Promised settings.now (state_of mode) template.now (calls_of F.Finder.openings calls.old) calls.new result }
     ensures lines { (i : ℕ) → LooksBack template.now i }
 {
     let reader = open(settings, mode, template)?;
-    drive(heap, reader, asks)
+    ask_all(reader, calls);
+    Ok(())
 }
