@@ -1,5 +1,5 @@
 // The static library for C and Rust, `farkeztu_unescape` and `farkeztu_unescaped_len`: what they do stands in the crate `boundary`.
-// They are written out again, since a static library exports no function but its own.
+// They are written out again, since a static library exports no function but its own, and tell numbers, as C takes them.
 
 #![tactic(auto)]
 

@@ -11,7 +11,7 @@ use finder::NoFinder;
 use stream::{LookAhead, Stream};
 use utf8::NotUtf8;
 
-// A text's characters with one look ahead. A method only takes characters, which `Onward` says in each contract: a fact of the value before
+// A text's characters with one look ahead. A method only takes characters, which `Onward` says in each contract, as some say which: a fact of the value before
 // and the value behind is none that an invariant of the type could hold.
 #[derive(Drop)]
 pub(crate) struct Source<'t> {

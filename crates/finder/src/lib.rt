@@ -62,7 +62,7 @@ pub fn is_line_end(b: u8) -> bool
 pub trait Finder {
     ghost openings: { Self → List Opening };
 
-    // The first place from the offset on where an opening qualifies, and the longest that does there: how far it is, what it opens, and its length.
+    // The first place from the offset on where an opening qualifies, and the longest that does there: how far it is, what it opens, and its length. Source and offset come apart: a struct of both would be made for each call, and a cursor carries settings, which a finder does not take.
     fn find(&self, source: &[u8], offset: usize) -> Option<(usize, StartMarker, usize)>
         ensures value { result ≡ found_from (openings self.now) source.now offset }
         ensures finds { Finds (openings self.now) source.now offset result }

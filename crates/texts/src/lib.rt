@@ -116,7 +116,7 @@ impl<'s> Opening<'s> {
     }
 }
 
-// Text to the next opening; with none it is all that is left.
+// Text to the next opening; with none it is all that is left. Here and below cursor and finder are the caller's, and are handed on as they are.
 #[tactic(auto, using(crate::proofs::Seeking::none_left, crate::proofs::Seeking::some_left, crate::proofs::Alike::found_behind))]
 fn text<F: Finder>(here: &Cursor, finder: &F) -> Verdict
     ensures value { result ≡ text_told (F.Finder.openings finder.now) (config_at here.now) (behind here.now) (ahead here.now) }

@@ -75,7 +75,7 @@ fn show_fault(rt: &impl Print, fault: ReadFault, balance: i64) -> io::Result<()>
     }
 }
 
-// Prints what a reader tells to the end.
+// Prints what a reader tells to the end; nothing is counted, so the loop is no walk.
 fn show<F: Finder>(rt: &impl Print, mut reader: Reader, finder: &F) -> io::Result<()> {
     loop {
         match reader.next(finder) {
