@@ -1,4 +1,6 @@
 -- Bytes: signs, names, runs, and the line that was read so far.
+-- As names, `behind` is the bytes that were read before a place, the newest first, and `ahead` those to come.
+-- In prose we say "before" of what was read and "behind" of what follows: a sign behind an opening comes after it.
 use Rattle.std.specs.Prelude.{◌≡◌, ℕ, suc, ◌<◌, ◌≤◌, Bool, true, false, not, ◌&&◌, ◌||◌, List, [], ◌∷◌, length, take, ◌==◌, nat_le, slice_index}
 use Rattle.finder.specs.Finding.{is_line_end}
 use Rattle.rules.specs.declared.whitespace.Whitespace.{Whitespace}
@@ -56,20 +58,20 @@ run p (x ∷ xs) = elim (p x) [ true ↦ suc (run p xs) | false ↦ 0 ]
 abbrev pub LongestRun : (ℕ → Bool) → List ℕ → ℕ → Type 0
 LongestRun p xs n = (n ≤ length xs) × ((k : ℕ) → k < n → p (slice_index xs k) ≡ true) × (n < length xs → p (slice_index xs n) ≡ false)
 
--- one byte more is behind: of the bytes read those since the last LF are kept, the newest first
+-- one byte more was read: of the bytes read those since the last LF are kept, the newest first
 abbrev pub push : ℕ → List ℕ → List ℕ
 push b behind = elim (b == 10) [ true ↦ [] | false ↦ b ∷ behind ]
 
--- some bytes more are behind
+-- some bytes more were read
 unfoldable pub pushes : List ℕ → List ℕ → List ℕ
 pushes [] behind = behind
 pushes (x ∷ xs) behind = pushes xs (push x behind)
 
--- what is behind the place i of xs
+-- what is kept of the bytes before the place i of xs
 abbrev pub behind_at : List ℕ → ℕ → List ℕ
 behind_at xs i = pushes (take i xs) []
 
--- the bytes back to CR, LF or the start, in reading order, ahead of those of xs
+-- the bytes back to CR, LF or the start, in reading order, and then those of xs
 unfoldable pub line_before : List ℕ → List ℕ → List ℕ
 line_before [] xs = xs
 line_before (b ∷ bs) xs = elim (is_line_end b) [ true ↦ xs | false ↦ line_before bs (b ∷ xs) ]

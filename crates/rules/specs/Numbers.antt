@@ -43,7 +43,7 @@ abbrev pub stays : NumberState → ℕ → Option NumberState
 stays p x = elim (is_digit x || x == 95) [ true ↦ Some p | false ↦ None ]
 
 -- behind a part of a number, the byte x with xs behind it leads to this part, or stops the number:
--- the letters of base 16 stay; a dot begins a fraction unless a dot is right ahead of the number or a member follows; e leads to the exponent,
+-- the letters of base 16 stay; a dot begins a fraction unless a dot is right before the number or a member follows; e leads to the exponent,
 -- which a sign or a digit leads on
 abbrev pub turn : ℕ → Bool → NumberState → ℕ → List ℕ → Option NumberState
 turn base dotted RadixInteger x xs = elim (base == 16 && (within 97 102 x || within 65 70 x)) [ true ↦ Some RadixInteger | false ↦ stays RadixInteger x ]
@@ -114,7 +114,7 @@ scanned base skip m xs s =
       | false ↦ number_by s.1 base (skip + s.0) m (take s.0 xs)
     ]
 
--- the number that stands here, where a dot is right ahead of it or not
+-- the number that stands here, where a dot is right before it or not
 unfoldable pub number : Bool → LexerState → List ℕ → Verdict
 number dotted m xs =
     elim (base_of xs == 10) [

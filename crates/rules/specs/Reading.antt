@@ -78,6 +78,7 @@ reading (suc n) os s c = elim (call os s c) [ Gives p d ↦ first p (reading n o
 
 -- a piece has a byte, but for a raw text, which its closing tag follows, and a line statement's end at the template's end
 
+-- how many pieces without a byte may come before the next byte is taken, by what waits: one, a raw text
 abbrev pub wait_rank : Pending → ℕ
 wait_rank Nothing = 0
 wait_rank Trim = 0
@@ -86,22 +87,26 @@ wait_rank (Marker g m n) = 0
 wait_rank (RawBody g) = 1
 wait_rank (RawClose n g) = 0
 
+-- the same by what opened the tag: one, the end of a line statement
 abbrev pub tag_rank : BlockSentinel → ℕ
 tag_rank Variable = 0
 tag_rank Block = 0
 tag_rank LineStatement = 1
 tag_rank Expression = 0
 
+-- the same by where the reading stands
 abbrev pub rank : LexerState → Pending → ℕ
 rank Template w = wait_rank w
 rank (Inside k b) w = tag_rank k
 rank Over w = 0
 
+-- how many pieces the cut gives: one, if it has bytes and they are not told yet
 abbrev pub cut_rank : List ℕ → ℕ
 cut_rank [] = 0
 cut_rank (x ∷ xs) = 1
 
--- at most so many pieces are to come
+-- at most so many pieces are to come: for each byte ahead the one that has it and one without a byte behind that; one without a byte
+-- before all these; and the cut
 abbrev pub measure : Core → ℕ
 measure c = 2 * length c.ahead + rank c.state c.pending + cut_rank c.cut
 

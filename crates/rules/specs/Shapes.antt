@@ -17,7 +17,8 @@ held (Marker g m n) = g + n
 held (RawBody g) = 0
 held (RawClose n g) = n
 
--- how many bytes what waits has at least, where it is to have some
+-- how many bytes the line end, opening or closing tag that waits has; in the other cases, where what waits need have none, 1,
+-- so that "more than none" asks nothing there
 abbrev pub least : Pending → ℕ
 least Nothing = 1
 least Trim = 1
@@ -37,7 +38,8 @@ level Template = 0
 level (Inside k b) = magnitude b
 level Over = 0
 
--- a piece and what waits behind it are ahead; its text lies in it; it has a byte or leads to where fewer pieces can follow; it holds at most as many brackets as bytes
+-- a piece and what waits behind it are ahead; a line end, opening or closing tag that waits has a byte; the text lies in the piece;
+-- the piece has a byte or leads to where fewer pieces can follow; it takes the balance at most `len` further from 0
 pub record Forward (n : ℕ) (m : LexerState) (w : Pending) (p : Step) : Type 0 where
   pub ahead : p.len + held p.pending ≤ n
   pub lively : 0 < least p.pending

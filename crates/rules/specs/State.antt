@@ -1,4 +1,6 @@
 -- The state of a reading, and the pieces that the rules tell.
+-- As names, `behind` is the bytes that were read before a place, the newest first, and `ahead` those to come.
+-- In prose we say "before" of what was read and "behind" of what follows: a sign behind an opening comes after it.
 use Rattle.std.specs.Prelude.{ℕ, Bool, List, None, Option, Some, Ok, Err, Result}
 use Rattle.pieces.specs.declared.fault.FaultKind.{FaultKind}
 use Rattle.pieces.specs.declared.kind.Kind.{Kind}

@@ -9,7 +9,7 @@ use Rattle.rules.specs.declared.LexerState.{LexerState}
 use Rattle.rules.specs.declared.Pending.TheVariants.{Nothing}
 use Rattle.rules.specs.State.{told, Verdict, fault}
 
--- how far the next quote like q is that no backslash escapes; the first byte may be escaped
+-- how far the next quote like q is that no backslash escapes; with `true` the first byte is escaped
 unfoldable pub quote_end : ℕ → Bool → List ℕ → Option ℕ
 quote_end q escaped [] = None
 quote_end q true (x ∷ xs) = further (quote_end q false xs)

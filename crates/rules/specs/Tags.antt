@@ -74,7 +74,7 @@ weight Gte = pos 0
 weight Lt = pos 0
 weight Lte = pos 0
 
--- a dot is right ahead of this place
+-- a dot is right before this place
 abbrev pub dot_behind : List ℕ → Bool
 dot_behind [] = false
 dot_behind (b ∷ bs) = b == 46
@@ -115,7 +115,8 @@ trim_by Remove = Trim
 trim_by Preserve = Nothing
 trim_by Default = Nothing
 
--- an end of n bytes with its sign: behind a block Tail follows, behind an expression nothing more
+-- an end of n bytes with its sign: behind a block Tail follows, behind an expression nothing more;
+-- a line statement has no such end (`end_of`), so its case is never reached
 abbrev pub closing : Config → BlockSentinel → Whitespace → ℕ → List ℕ → Verdict
 closing s Variable g n xs = plain VariableEnd n Template (trim_by g)
 closing s Expression g n xs = plain VariableEnd n Over Nothing
@@ -154,12 +155,13 @@ abbrev pub blanks : Config → List ℕ → BlockSentinel → ℤ → ℕ → Li
 blanks s behind k b x xs zero = inside s behind k b x xs
 blanks s behind k b x xs (suc n) = plain White (suc n) (Inside k b) Nothing
 
--- behind n bytes of white space a line end or the template's end: how many bytes there are then
+-- n bytes of white space and the line end behind them, if there is one, together; none where neither a line end nor the template's end follows
 abbrev pub line_rest : ℕ → List ℕ → Option ℕ
 line_rest n [] = Some n
 line_rest n (x ∷ xs) = elim (line_end (x ∷ xs)) [ zero ↦ None | suc k ↦ Some (n + suc k) ]
 
--- in a line statement at balance 0, White_Space other than CR and LF with the line end or the template's end behind it: how many bytes
+-- in a line statement at balance 0: how many bytes White_Space other than CR and LF and the line end behind it, if there is one, have together;
+-- none where neither a line end nor the template's end follows
 abbrev pub statement_end : Config → BlockSentinel → ℤ → List ℕ → Option ℕ
 statement_end s Variable b xs = None
 statement_end s Block b xs = None

@@ -28,7 +28,7 @@ use Rattle.rules.specs.Tags.{tail, tag_verdict}
 abbrev pub line_is_white : Config → List ℕ → Bool
 line_is_white s behind = all_pass (inline_white s) (line_before behind [])
 
--- a strip is due before an opening with no sign, with these bytes behind it
+-- a strip is due before an opening with no sign, with these bytes read before it
 abbrev pub due : Config → StartMarker → List ℕ → Bool
 due s Variable behind = false
 due s Block behind = s.lstrip_blocks && line_is_white s behind
@@ -41,12 +41,12 @@ abbrev pub left_over : ℕ → List ℕ → ℕ
 left_over zero xs = 0
 left_over (suc k) xs = elim (slice_index xs k == 10) [ true ↦ suc k | false ↦ length xs ]
 
--- how many bytes of the text a strip leaves that is due or not: it takes trailing White_Space other than CR and LF off
+-- how many bytes of the text are left, whether a strip is due or not: a due one takes trailing White_Space other than CR and LF off
 abbrev pub stripped : Bool → Config → List ℕ → ℕ
 stripped true s xs = left_over (kept (inline_white s) xs) xs
 stripped false s xs = length xs
 
--- how many bytes of the text xs are left before an opening with this sign, with these bytes behind the text:
+-- how many bytes of the text xs are left before an opening with this sign, with these bytes read before the text:
 -- `-` takes trailing White_Space off, and with no sign a strip may be due
 unfoldable pub lead : Config → StartMarker → Whitespace → List ℕ → List ℕ → ℕ
 lead s m Remove behind xs = kept (white s) xs
@@ -121,7 +121,7 @@ raw_from s Remove xs = white_run (white s) xs
 raw_from s Preserve xs = 0
 raw_from s Default xs = elim s.trim_blocks [ true ↦ line_end xs | false ↦ 0 ]
 
--- how many of the bytes left the text of a raw body keeps before a closing tag with this sign, with these bytes behind the tag:
+-- how many of the bytes left the text of a raw body keeps before a closing tag with this sign, with these bytes read before the tag:
 -- trailing White_Space goes by `-`, and with no sign a strip may be due as before a block
 abbrev pub raw_to : Config → Whitespace → List ℕ → List ℕ → ℕ
 raw_to s Remove behind xs = kept (white s) xs
@@ -193,7 +193,7 @@ opening_sign Comment xs = sign_at xs
 opening_sign LineStatement xs = Default
 opening_sign LineComment xs = sign_at xs
 
--- text runs to the opening that was found, with these bytes behind the text; with none it runs to the end
+-- text runs to the opening that was found, with these bytes read before the text; with none it runs to the end
 abbrev pub met : Config → List ℕ → List ℕ → Option Triple → Verdict
 met s behind xs None = plain Text (length xs) Template Nothing
 met s behind xs (Some t) =

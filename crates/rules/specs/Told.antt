@@ -41,7 +41,8 @@ fault_span BadInteger p q = span q (one_on q)
 fault_span AfterExpression p q = span q (one_on q)
 fault_span (Escape f) p q = span p q
 
--- how a reading ends that stops at a place; a reading that has enough calls does not stop unread
+-- how a reading ends that stops at a place; one that stopped unread would be told as finished, and the clause `ends` of the reader's `next_piece`
+-- says that none does
 abbrev pub ended : Place → Stop → Ending ReadFault
 ended p Done = Ok tt
 ended p (Failing k xs) = Err (record { kind = k; span = fault_span k p (beyond xs p) })

@@ -4,7 +4,7 @@ ghost use Rattle.std.specs.Prelude.{◌≡◌, ◌≤◌, length, take};
 use byte_search::{after, until};
 use syntax::Settings;
 
-// A place of a source that is read under settings. It keeps the bytes that were read too, since rules look back: over a line before a strip, at a dot ahead of a
+// A place of a source that is read under settings. It keeps the bytes that were read too, since rules look back: over a line before a strip, at a dot before a
 // number, and a finder over the line of its opening.
 #[derive(Clone, Copy, Debug)]
 pub struct Cursor<'s> {
