@@ -31,7 +31,7 @@ Left xs r =
     (Strips xs r × ((m : ℕ) → AllPass (in_line white_space) (drop m xs) → r ≤ m))
     ⊎ ((r ≡ length xs) × ((m : ℕ) → Strips xs m → ⊥))
 
--- how many bytes of the text xs are left before an opening with this sign, with these bytes behind the opening:
+-- how many bytes of the text xs are left before an opening with this sign, with these bytes read before the opening:
 -- `-` takes trailing White_Space off, and with no sign a strip may be due
 abbrev pub left_before : Config → StartMarker → Whitespace → List ℕ → List ℕ → ℕ
 left_before s m Remove behind xs = kept (white s) xs
