@@ -18,7 +18,7 @@ pub trait Ranged {
         ensures { result ≡ ends self.now };
 }
 
-// The place of the first record that begins before the one ahead of it ended.
+// The place of the first record that begins before the one right before it ended.
 pub fn first_too_early<R: Ranged>(records: &[R]) -> Option<usize>
     ensures value { result ≡ first_too_early R.Ranged.begins R.Ranged.ends records.now }
     ensures told { Told R.Ranged.begins R.Ranged.ends records.now result }
