@@ -4,7 +4,7 @@ use Rattle.std.specs.Fmt.{decimal}
 use Rattle.records.specs.declared.fault.RecordFault.{RecordFault}
 use Rattle.records.specs.declared.fault.RecordFault.TheVariants.{BadRange, TooEarly}
 
--- 17: a range leaves the template or runs backwards; 18: a record begins before the one ahead of it ended
+-- 17: a range leaves the template or runs backwards; 18: a record begins before the one right before it ended
 abbrev pub number_of : RecordFault → ℕ
 number_of BadRange = 17
 number_of (TooEarly i) = 18

@@ -10,7 +10,7 @@ use std::fmt;
 pub enum RecordFault {
     // a range leaves the template or runs backwards
     BadRange,
-    // the record at this index begins before the one ahead of it ended
+    // the record at this index begins before the one right before it ended
     TooEarly(usize),
 }
 
