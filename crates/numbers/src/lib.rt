@@ -101,8 +101,8 @@ fn eat_decimal(digits: &[u8], after_dot: bool, state: LexerState) -> Result<Step
     scanner.eat(0, digits, state)
 }
 
-// The number at the front, right behind a dot or not. One call behind a `match` that chooses base and digits was tried: that the piece lies within did not
-// follow there. `after_dot` and the state behind the number are the caller's, and are handed on as they are.
+// The number at the front, right behind a dot or not, with the state in which the reading goes on behind it. One call behind a `match` that chooses base and
+// digits was tried: that the piece lies within did not follow there.
 #[tactic(auto, using(crate::proofs::Verdicts::decimal_within, crate::proofs::Verdicts::radix_within), unfolding(rules::specs::Numbers::number))]
 pub fn eat_number(rest: &[u8], after_dot: bool, state: LexerState) -> Result<Step, Fault>
     ensures value { verdict_of result ≡ number_at after_dot state rest.now }

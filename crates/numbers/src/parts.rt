@@ -23,7 +23,7 @@ fn member_ahead(s: &[u8]) -> bool
     }
 }
 
-// How a number is scanned: its base, whether a dot is right ahead of it, and the part that it begins in.
+// How a number is scanned: its base, whether a dot is right before it, and the part that it begins in.
 #[derive(Clone, Copy, Debug)]
 pub struct Scanner {
     pub radix: u32,
