@@ -52,7 +52,7 @@ fn string_of(text: &[u8], state: LexerState) -> Result<Step, Fault>
     Ok(quoted(Kind::String, text, Some(len as u64), state))
 }
 
-// The string that a quote opens, with these bytes behind the quote. The state behind the string is the caller's, and is handed on as it is.
+// The string that a quote opens, with these bytes behind the quote, and the state in which the reading goes on behind the string.
 #[tactic(auto, unfolding(rules::specs::Strings::string))]
 pub fn eat_string(quote: u8, rest: &[u8], state: LexerState) -> Result<Step, Fault>
     ensures { verdict_of result ≡ string_at quote state rest.now }
