@@ -23,7 +23,7 @@ fn trim_by(ws: Whitespace) -> Pending
     }
 }
 
-// How many bytes White_Space other than CR and LF and the line end, or the template's end, have.
+// How many bytes White_Space other than CR and LF has, together with the line end behind it; nothing where neither a line end nor the template's end follows.
 fn line_rest(rest: &[u8]) -> Option<usize>
     ensures { result ≡ line_rest (white_run (in_line white_space) rest.now) (drop (white_run (in_line white_space) rest.now) rest.now) }
 {
@@ -93,7 +93,7 @@ impl<'s> Tag<'s> {
         self.closes(self.end()?)
     }
 
-    // In a line statement at a balance of exactly 0: how many bytes White_Space other than CR and LF and the line end, or the template's end, have.
+    // How many bytes the end of a line statement has, at a balance of exactly 0: those of the rest of its line (`line_rest`), if that is white.
     pub fn statement_end(&self) -> Option<usize>
         ensures { result ≡ statement_end (config_at self.now.here) self.now.sentinel self.now.balance (ahead self.now.here) }
     {

@@ -31,7 +31,7 @@ impl<'s> Tag<'s> {
         LexerState::Inside(self.sentinel, self.balance)
     }
 
-    // Whether a dot is right ahead of this place.
+    // Whether a dot is right before this place.
     #[tactic(auto, using(numbers::proofs::Lasts::ends_is, crate::proofs::Dots::dot_is))]
     pub fn after_dot(&self) -> bool
         ensures { result ≡ dot_behind (behind self.now.here) }

@@ -14,7 +14,7 @@ use pieces::{FaultKind, Kind, Operator};
 use rules::{Fault, LexerState, Pending, Step};
 use words::{eat_string, lex_identifier, operator, weight};
 
-// An identifier; else no token begins here. The state behind it is the caller's, and is handed on as it is.
+// An identifier, and the state in which the reading goes on behind it; else no token begins here.
 fn eat_identifier(rest: &[u8], state: LexerState) -> Result<Step, Fault>
     ensures { verdict_of result ≡ named state rest.now }
 {
