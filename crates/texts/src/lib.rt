@@ -1,4 +1,4 @@
-// Reading text: what comes next ahead of an opening, and at one.
+// Reading text: what comes next before an opening, and at one.
 // Each function says for itself that its verdict lies in the bytes ahead (`inside`): where a callee does not, the check does not prove it of the caller.
 
 #![tactic(auto)]
@@ -116,7 +116,7 @@ impl<'s> Opening<'s> {
     }
 }
 
-// Text to the next opening; with none it is all that is left. Here and below cursor and finder are the caller's, and are handed on as they are.
+// Text to the next opening that the finder tells; with none it is all that is left.
 #[tactic(auto, using(crate::proofs::Seeking::none_left, crate::proofs::Seeking::some_left, crate::proofs::Alike::found_behind))]
 fn text<F: Finder>(here: &Cursor, finder: &F) -> Verdict
     ensures value { result ≡ text_told (F.Finder.openings finder.now) (config_at here.now) (behind here.now) (ahead here.now) }
