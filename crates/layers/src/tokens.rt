@@ -29,9 +29,7 @@ where
         Tokens { below }
     }
 
-    // Shift has these two as well: a trait of both would only repeat the bodies in its impls.
-
-    // The stream below, as it is now.
+    // The stream below, as it is now. Shift has this and `into_below` as well: a trait of both would only repeat the bodies in its impls.
     pub fn below(&self) -> &S
         ensures { result.now ≡ self.now.below }
     {
