@@ -29,7 +29,7 @@ refusal t = elim (nat_le (length t) max_len) [
   | false ↦ Some TooLong
 ]
 
--- opening tells that
+-- what opening answers: that refusal, exactly if there is one
 abbrev pub Refuses : List ℕ → Result Unit OpenFault → Type 0
 Refuses t (Ok u) = refusal t ≡ None
 Refuses t (Err f) = refusal t ≡ Some f
