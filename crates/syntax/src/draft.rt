@@ -16,7 +16,7 @@ use utf8::check_utf8;
 // Eight delimiters and the whitespace flags, which can be replaced until settings are built.
 #[derive(Debug, Drop)]
 pub struct Draft {
-    // an array, as a rule of the project has it: one element is lent to be rewritten
+    // an array, of which one element is lent to be rewritten: that form is asked for (docs/DECISIONS.md, "Forms")
     pub(crate) delims: [Delimiter; 8],
     pub(crate) whitespace: WhitespaceConfig,
 }

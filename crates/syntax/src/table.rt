@@ -1,4 +1,4 @@
-// Tables of eight delimiters: functions over the array, which the draft itself holds by a rule of the project.
+// Tables of eight delimiters: functions over the array that draft and settings hold. That it is an array is asked for (docs/DECISIONS.md, "Forms").
 ghost use Rattle.std.specs.Prelude.{◌≡◌, []};
 ghost use Rattle.syntax.specs.Delims.{bytes_of};
 ghost use Rattle.syntax.specs.Building.{table_of, first_empty, first_equal};
