@@ -41,7 +41,7 @@ pub struct DefaultFinder;
 impl Finder for DefaultFinder {
     ghost openings = { λ _. default_openings };
 
-    // The triple is taken apart here, as a rule of the project has it.
+    // The triple is taken apart here, by name: that form is asked for (docs/DECISIONS.md, "Forms").
     fn find(&self, source: &[u8], offset: usize) -> Option<(usize, StartMarker, usize)> {
         let (distance, marker, len) = find_start_marker_memchr(source, offset)?;
         Some((distance, marker, len))
