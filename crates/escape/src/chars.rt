@@ -7,7 +7,8 @@ use finder::Finder;
 use stream::Stream;
 use utf8::{NotUtf8, char_at};
 
-// The characters of a text from a place on, each with its byte offset. A text that is not UTF-8 fails behind its well-formed prefix. The bytes behind are kept, since offsets count from the start.
+// The characters of a text from a place on, each with its byte offset. A text that is not UTF-8 fails behind its well-formed prefix.
+// The bytes that were read are kept, since offsets count from the start.
 #[derive(Clone, Copy, Debug)]
 pub struct CharIndices<'t> {
     text: &'t [u8],

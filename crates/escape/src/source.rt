@@ -140,7 +140,7 @@ impl<'t> Source<'t> {
     }
 
     // Takes one more octal digit behind those of a value, if one stands there: the value with it, unless that passes 255.
-    // A rule of the project: the digits are a range of the match, with a guard on the value.
+    // The digits are a range of the match, with a guard on the value: that form is asked for (docs/DECISIONS.md, "Forms").
     fn more_octal(&mut self, value: u32) -> Option<u32>
         requires { value < 256 }
         ensures value { MoreOctal result value (coming self.old) (coming self.new) }
