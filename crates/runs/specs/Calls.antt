@@ -36,30 +36,33 @@ unfoldable pub behind_calls : Config → View → List Asked → View
 behind_calls s v [] = v
 behind_calls s v (c ∷ cs) = behind_calls s (behind_call s v c) cs
 
--- a finder of other openings serves no call
+-- a next is lawful if its finder has the openings ps, in any order; rest is always lawful
 abbrev pub LawfulCall : List Opening → Asked → Type 0
 LawfulCall ps (Next os) = Same os ps
 LawfulCall ps Rest = Unit {0}
 
+-- each of the calls is lawful
 abbrev pub AllLawful : List Opening → List Asked → Type 0
 AllLawful ps cs = AllByRecursion (LawfulCall ps) cs
 
--- the calls that code makes, each next with a finder by the openings that it means
+-- a call of the code, its finder taken by the openings that it means
 abbrev pub call_of : {F : Type 0} → (F → List Opening) → Ask F → Asked
 call_of openings (Next f) = Next (openings f)
 call_of openings Rest = Rest
 
+-- what the calls of the code ask, without the replies
 abbrev pub asks_of : {F : Type 0} → List (Call F) → List (Ask F)
 asks_of cs = map (λ c. c.ask) cs
 
+-- calls of the code, each finder taken by the openings that it means
 abbrev pub calls_of : {F : Type 0} → (F → List Opening) → List (Call F) → List Asked
 calls_of openings cs = map (λ c. call_of openings c.ask) cs
 
--- the replies that stand beside them
+-- the replies that stand beside what they ask
 abbrev pub replies_of : {F : Type 0} → List (Call F) → List (Option Reply)
 replies_of cs = map (λ c. c.reply) cs
 
--- the same calls, served by a finder of the openings os
+-- the same call, served by a finder of the openings os
 abbrev pub served : List Opening → Asked → Asked
 served os (Next ps) = Next os
 served os Rest = Rest

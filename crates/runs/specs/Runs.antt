@@ -37,11 +37,11 @@ abbrev pub Opens : Settings → LexerState → List ℕ → Result Reader OpenFa
 Opens st m t (Ok r) = Passes t × (config r ≡ config_of st) × (view_of r ≡ unread (config_of st) m t)
 Opens st m t (Err f) = Refuses t f
 
--- calls on a reader leave beside each ask what it tells, one after the other
+-- calls on a reader: the asks are as they were, and each has beside it what the rules tell, one call after the other
 abbrev pub Drives : {F : Type 0} → Config → View → (F → List Opening) → List (Call F) → List (Call F) → Type 0
 Drives s v openings cs ds = (asks_of ds ≡ asks_of cs) × (replies_of ds ≡ map Some (replies s v (calls_of openings cs)))
 
--- what a run answers: the refusal of opening, exactly if there is one, and then the calls are as they were; or beside each ask what it tells, one after the other
+-- what a run answers: where opening is refused, the refusal, and the calls are as they were; else each ask has beside it what the rules tell
 abbrev pub Runs : {F : Type 0} → Config → LexerState → List ℕ → (F → List Opening) → List (Call F) → List (Call F) → Result Unit OpenFault → Type 0
 Runs s m t openings cs ds (Ok u) = Passes t × Drives s (unread s m t) openings cs ds
 Runs s m t openings cs ds (Err f) = Refuses t f × (ds ≡ cs)
@@ -56,8 +56,8 @@ LooksBack t i =
     (blank_line (behind_at t i) ≡ blank_line (reverse (take i t))) × (line_before (behind_at t i) [] ≡ line_before (reverse (take i t)) [])
     × (dot_behind (behind_at t i) ≡ dot_behind (reverse (take i t)))
 
--- the promises of a run by lawful finders: its replies are those of the rules, whichever finder serves each call; its pieces are the template, nothing lost, doubled
--- or invented; they are what their kinds say; and from a resting point on no other run under the same settings tells anything else
+-- the promises of a run by lawful finders: its replies are those of the rules, whichever finder serves each call; its pieces are the template, nothing lost,
+-- doubled or invented; they are what their kinds say; and from a resting point on no other run under the same settings tells anything else
 pub record Promises (st : Settings) (m : LexerState) (t : List ℕ) (cs : List Asked) (rs : List Reply) : Type 0 where
   pub answers : rs ≡ replies (config_of st) (unread (config_of st) m t) (map (served (openings_of st)) cs)
   pub whole : Whole t rs

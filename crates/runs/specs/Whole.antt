@@ -30,7 +30,7 @@ finishes (Rests b) = false
 abbrev pub Spans : List ℕ → ℕ → ℕ → Piece → Type 0
 Spans t i j p = (p.span ≡ span (place_at t i) (place_at t j)) × (i ≤ p.text.start) × (p.text.start ≤ p.text.end) × (p.text.end ≤ j)
 
--- the pieces lie one behind the other from i to j, each with what is said of its place, of where it ends, and of it
+-- the pieces lie one behind the other from i to j, and for each P holds of its begin, its end and the piece
 unfoldable pub Along : (ℕ → ℕ → Piece → Type 0) → ℕ → List Piece → ℕ → Type 0
 Along P i [] j = i ≡ j
 Along P i (p ∷ ps) j = (k : ℕ) × (i ≤ k) × P i k p × Along P k ps j

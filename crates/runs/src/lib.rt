@@ -75,6 +75,10 @@ fn ask_all<F: Finder>(mut reader: Reader, calls: &mut [Call<F>])
 }
 
 // Opens a reader, makes one call after another on it, and writes each reply beside what was asked. A refusal of opening leaves the calls as they are.
+// `promised` is what the run as a whole promises where each finder means the openings of the settings: it does not matter which of them serves a call, no byte
+// is lost, doubled or invented, no piece is misnamed, and no earlier text reaches past a resting point. `lines` is a law of the rules and speaks of no run: they
+// keep only the bytes since the last LF, and looking back over these tells what looking back over all that was read would. So `promised` can speak of the whole
+// template.
 pub fn drive<F: Finder>(
     settings: &Settings,
     mode: Mode,
