@@ -1,3 +1,4 @@
 mod Decoded
 mod Evaluated
 mod Sizes
+pub mod Faults

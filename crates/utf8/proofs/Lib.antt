@@ -2,3 +2,4 @@ pub mod Rows
 pub mod Chars
 pub mod Laws
 pub mod Places
+pub mod Parts
