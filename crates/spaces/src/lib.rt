@@ -10,7 +10,7 @@ ghost use Rattle.spaces.specs.Runs.{white_run, white_tail, Longest, LongestTail,
 ghost use Rattle.spaces.specs.Lines.{is_blank, blank_run, line_end, LongestBlank, LineEnd};
 
 use byte_search::{after, until};
-use ranged::Ranged;
+use ranged::{Ranged, first_too_early};
 use utf8::{Char, char_at, is_continuation};
 
 // The code points from `first` to `last`.
@@ -87,13 +87,14 @@ static WHITE_SPACE: [CodeRange; 10] = [
     },
 ];
 
-// The code points with the property White_Space, in rising order.
+// The code points with the property White_Space, in rising order: the one check of ranged records finds none of the ranges too early, which is proved.
 pub fn white_space() -> &'static [CodeRange]
     ensures value { result.now ≡ white_space }
     ensures rises { first_too_early begins ends result.now ≡ None }
     ensures rising { Rising begins ends result.now }
     ensures agrees { (c : ℕ) → in_ranges result.now c ≡ is_whitespace c }
 {
+    prove!(first_too_early(&WHITE_SPACE).is_none());
     &WHITE_SPACE
 }
 
