@@ -5,3 +5,4 @@ pub mod Outside
 pub mod Fuel
 pub mod Whole
 pub mod Lawful
+pub mod Faults

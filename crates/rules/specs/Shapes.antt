@@ -1,5 +1,10 @@
--- What every verdict has: its bytes are ahead, its text lies among them, and the reading goes forward.
+-- What every verdict has: its bytes are ahead, its text lies among them, and the reading goes forward; and which numbers its faults have.
 use Rattle.std.specs.Prelude.{◌≡◌, ℕ, suc, ◌+◌, ◌*◌, ◌<◌, ◌≤◌, ℤ, pos, negsuc, Some, None, Ok, Err}
+use Rattle.escape.specs.declared.fault.DecodeFault.{DecodeFault}
+use Rattle.escape.specs.Faults.{number_of as decode_number}
+use Rattle.pieces.specs.declared.fault.FaultKind.{FaultKind}
+use Rattle.pieces.specs.declared.fault.FaultKind.TheVariants.{Escape}
+use Rattle.pieces.specs.Faults.{number_of}
 use Rattle.rules.specs.declared.LexerState.{LexerState}
 use Rattle.rules.specs.declared.LexerState.TheVariants.{Template, Inside, Over}
 use Rattle.rules.specs.declared.Pending.{Pending}
@@ -53,3 +58,9 @@ abbrev pub Fits : ℕ → LexerState → Pending → Verdict → Type 0
 Fits n m w (Ok (Some p)) = Forward n m w p
 Fits n m w (Ok None) = n ≡ 0
 Fits n m w (Err f) = f.distance ≤ n
+
+-- what is wrong has a number from 7 to 15; of the decoder's refusals it is the bad escape alone, 15: never 6, since a template is UTF-8 and so are its strings
+pub record Numbered (k : FaultKind) : Type 0 where
+  pub least : 7 ≤ number_of k
+  pub most : number_of k ≤ 15
+  pub bad : (f : DecodeFault) → k ≡ Escape f → decode_number f ≡ 15
