@@ -1,6 +1,7 @@
 // Drafts of settings.
 ghost use Rattle.std.specs.Prelude.{◌≡◌, IfOk, Ok, OnErr};
 ghost use Rattle.syntax.specs.Building.{build_told, Found};
+ghost use Rattle.syntax.specs.Delims.{bytes_of};
 ghost use Rattle.syntax.specs.Drafts.{delim_of, defaults, all_off, set_told, after_set, SetFound};
 ghost use Rattle.syntax.specs.Faults.{tells};
 ghost use Rattle.syntax.specs.Openings.{setting_of, openings_of, Lawful};
@@ -12,6 +13,16 @@ use super::settings::Settings;
 use super::table::{first_empty, first_equal};
 use super::whitespace::WhitespaceConfig;
 use utf8::check_utf8;
+
+// The texts of the default delimiters, in the order of the table; the line prefixes are empty.
+const DEFAULT_DELIMS: [&str; 8] = ["{%", "%}", "{{", "}}", "{#", "#}", "", ""];
+
+// The default delimiter of a name.
+fn default_delim(which: DelimiterName) -> Delimiter
+    ensures { bytes_of result ≡ defaults which }
+{
+    Delimiter::new(DEFAULT_DELIMS[which.index()])
+}
 
 // Eight delimiters and the whitespace flags, which can be replaced until settings are built.
 #[derive(Debug, Drop)]
@@ -28,18 +39,8 @@ impl Draft {
         ensures flags { result.whitespace ≡ all_off }
         ensures builds { build_told (delim_of result) ≡ Ok tt }
     {
-        let delims = [
-            Delimiter::new("{%"),
-            Delimiter::new("%}"),
-            Delimiter::new("{{"),
-            Delimiter::new("}}"),
-            Delimiter::new("{#"),
-            Delimiter::new("#}"),
-            Delimiter::new(""),
-            Delimiter::new(""),
-        ];
         Draft {
-            delims,
+            delims: DelimiterName::ALL.map(default_delim),
             whitespace: WhitespaceConfig::default(),
         }
     }
