@@ -1,7 +1,7 @@
 use Rattle.std.proofs.Common.{◌≡◌, ◌-◌, length}
 use Rattle.finders.specs.Meant.{meant}
 use Rattle.finders.proofs.Clear.{Clear}
-use Rattle.finders.proofs.matcher.StartMarkerMatcherFinder.find.Given as goal
+use Rattle.finders.proofs.matcher.StartMarkerMatcher.first_opening.Given as goal
 
 abbrev pub invariant-loop-d : goal.invariant-loop-d
 invariant-loop-d l = record {

@@ -4,7 +4,7 @@ use Rattle.finders.specs.Meant.{meant}
 use Rattle.finders.proofs.Clear.{Led, Clear, Told, turn_end, turn_here, turn_more}
 use Rattle.finders.proofs.Held.{held_led}
 use Rattle.finders.proofs.There.{opened_there}
-use Rattle.finders.proofs.matcher.StartMarkerMatcherFinder.find.Goals as goal
+use Rattle.finders.proofs.matcher.StartMarkerMatcher.first_opening.Goals as goal
 
 pub returns-in-Some-opening_at : goal.returns-in-Some-opening_at
 returns-in-Some-opening_at c =
