@@ -1,5 +1,6 @@
 // The characters of a text as a stream.
-ghost use Rattle.std.specs.Prelude.{◌≡◌, ◌-◌, length, drop};
+ghost use Rattle.std.specs.Prelude.{◌≡◌, ◌-◌, List, length, drop};
+ghost use Rattle.finder.specs.Finding.{Opening};
 ghost use Rattle.utf8.specs.Utf8.{characters};
 ghost use Rattle.escape.specs.Characters.{closed};
 
@@ -18,7 +19,10 @@ pub struct CharIndices<'t> {
 impl<'t> CharIndices<'t> {
     // The characters of the whole text.
     pub fn new(text: &'t [u8]) -> CharIndices<'t>
-        ensures { (result.at ≡ 0) × (result.text.now ≡ text.now) }
+        ensures items { ⟦<Self as Stream>⟧.items result ≡ characters 0 text.now }
+        ensures ending { ⟦<Self as Stream>⟧.ending result ≡ closed 0 text.now }
+        ensures serves { (os : List Opening) → ⟦<Self as Stream>⟧.serves result os }
+        ensures left { ⟦<Self as Stream>⟧.left result ≡ length text.now }
     {
         CharIndices { text, at: 0 }
     }

@@ -1,6 +1,6 @@
 // Why records are refused.
 ghost use Rattle.std.specs.Prelude.{◌≡◌, Some};
-ghost use Rattle.records.specs.Faults.{number_of, index_of, name_of, fault_text};
+ghost use Rattle.records.specs.Faults.{told, name_of, fault_text};
 
 use std::error::Error;
 use std::fmt;
@@ -17,7 +17,7 @@ pub enum RecordFault {
 impl RecordFault {
     // The refusal's number: the rules of this project give each one (docs/RULES.md), whatever the enum's order.
     pub fn number(self) -> u32
-        ensures { result ≡ number_of self }
+        ensures { result ≡ (told self).number }
     {
         match self {
             RecordFault::BadRange => 17,
@@ -27,7 +27,7 @@ impl RecordFault {
 
     // The index of the record that is too early.
     pub fn index(self) -> Option<usize>
-        ensures { result ≡ index_of self }
+        ensures { result ≡ (told self).index }
     {
         match self {
             RecordFault::BadRange => None,

@@ -1,6 +1,8 @@
 // Recorded pieces as a stream.
-ghost use Rattle.std.specs.Prelude.{◌≡◌, length, Some, None, Ok, Err};
-ghost use Rattle.records.specs.Taken.{refusal, Refused};
+ghost use Rattle.std.specs.Prelude.{◌≡◌, List, length, IfOk, Ok};
+ghost use Rattle.finder.specs.Finding.{Opening};
+ghost use Rattle.records.specs.Faults.{tells};
+ghost use Rattle.records.specs.Taken.{take_told, Means};
 
 use super::fault::RecordFault;
 use super::range::all_good;
@@ -16,10 +18,15 @@ pub struct Recorded<'p> {
 }
 
 impl<'p> Recorded<'p> {
-    // Takes records of a template: refuses a bad range in any of them, and then records that do not rise.
+    // Takes records of a template: refuses a bad range in any of them, and then records that do not rise. Taken, they are a stream that tells all of them and
+    // finishes.
     pub fn new(template: &[u8], pieces: &'p [Piece]) -> Result<Recorded<'p>, RecordFault>
-        ensures value { elim result [ Ok s ↦ (refusal (length template.now) pieces.now ≡ None) × (s.rest.now ≡ pieces.now) | Err f ↦ refusal (length template.now) pieces.now ≡ Some f ] }
-        ensures words { elim result [ Ok s ↦ Refused (length template.now) pieces.now None | Err f ↦ Refused (length template.now) pieces.now (Some f) ] }
+        ensures told { tells result ≡ take_told (length template.now) pieces.now }
+        ensures means { Means (length template.now) pieces.now (tells result) }
+        ensures items { IfOk result (λ s. ⟦<Self as Stream>⟧.items s ≡ pieces.now) }
+        ensures ending { IfOk result (λ s. ⟦<Self as Stream>⟧.ending s ≡ Ok tt) }
+        ensures serves { IfOk result (λ s. (os : List Opening) → ⟦<Self as Stream>⟧.serves s os) }
+        ensures left { IfOk result (λ s. ⟦<Self as Stream>⟧.left s ≡ length pieces.now) }
     {
         if !all_good(template.len(), pieces) {
             return Err(RecordFault::BadRange);

@@ -1,6 +1,6 @@
 // Tokens that borrow from the template.
 ghost use Rattle.std.specs.Prelude.{◌≡◌, true, false, length, Ok, Err};
-ghost use Rattle.records.specs.declared.fault.RecordFault.TheVariants.{BadRange as bad_range};
+ghost use Rattle.records.specs.Faults.{bad_range, told};
 ghost use Rattle.records.specs.Taken.{is_good, Good};
 ghost use Rattle.records.specs.Tokens.{shown, token_of, record_token};
 
@@ -66,7 +66,7 @@ fn of_kind(kind: Kind, text: &[u8], value: Option<u64>) -> Token<'_>
 impl<'t> Token<'t> {
     // The token of a record of a template; refused where a range of the record is bad.
     pub fn new(template: &'t [u8], piece: Piece) -> Result<Token<'t>, RecordFault>
-        ensures value { elim result [ Ok t ↦ (is_good (length template.now) piece ≡ true) × (shown t ≡ record_token template.now piece) | Err f ↦ (is_good (length template.now) piece ≡ false) × (f ≡ bad_range) ] }
+        ensures value { elim result [ Ok t ↦ (is_good (length template.now) piece ≡ true) × (shown t ≡ record_token template.now piece) | Err f ↦ (is_good (length template.now) piece ≡ false) × (told f ≡ bad_range) ] }
         ensures words { elim result [ Ok t ↦ Good (length template.now) piece | Err f ↦ (Good (length template.now) piece → ⊥) ] }
     {
         if !is_good(template.len(), piece) {
