@@ -1,4 +1,4 @@
--- The examples, by evaluation.
+-- The examples, by one evaluation.
 use Rattle.std.proofs.Common.{refl}
 use lib.Utf8.{encode}
 use Rattle.std.specs.Fmt.{digits}
@@ -23,4 +23,4 @@ use Rattle.listings.specs.Examples.{heard, ExamplesHold}
 
 pub examples_hold : ExamplesHold
 unfolding encode digits stands_at is_in first_in distance_to blank_line longest found table fits width_by prefix_after characters_after blank_run run_after kept in_ranges meant hex_value hex_from octal_from unescaped_from beyond run pushes line_before last_is scan value_from number quote_end string first_standing literal close tag_verdict lead basic_tag closer_at find_closer raw_body comment line_comment_here opened text text_verdict reading meaning chop pieces behind joined lines heard
-examples_hold = (refl, (refl, (refl, (refl, (refl, (refl, (refl, (refl, (refl, (refl, (refl, (refl, (refl, tt)))))))))))))
+examples_hold = refl

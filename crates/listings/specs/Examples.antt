@@ -1,6 +1,5 @@
 -- Worked examples of reading and of listing.
 use Rattle.std.specs.Prelude.{◌≡◌, ℕ, zero, suc, ◌-◌, List, [], ◌∷◌, map, replicate, take, drop, ℤ, pos, negsuc, Some, None, Option, Ok, Err, codes}
-use Rattle.std.specs.List.{AllByRecursion}
 use Rattle.stream.specs.Told.{Ending}
 use Rattle.pieces.specs.declared.kind.Kind.{Kind}
 use Rattle.pieces.specs.declared.kind.Kind.TheVariants.{Text, VariableStart, VariableEnd, Ident, String, Int, Float, Operator as Operates, White, Cut}
@@ -128,11 +127,21 @@ examples =
     Reads in_expression (codes "\"\\ud83d\\ude00\"") (finished (valued String (0xF0 ∷ 0x9F ∷ 0x98 ∷ 0x80 ∷ []) 4 ∷ []) (pos 0)) ∷
     []
 
--- an example holds
-abbrev pub Holds : Example → Type 0
-Holds (Reads m t s) = summary t (hear m t) ≡ s
-Holds (Lists t xs) = listing t ≡ xs
+-- an answer: what a reading tells, or a listing
+pub data Answer : Type 0 where
+  Read : Summary → Answer
+  Listed : List ℕ → Answer
 
--- each does
+-- the answer by the rules
+abbrev pub actual : Example → Answer
+actual (Reads m t s) = Read (summary t (hear m t))
+actual (Lists t xs) = Listed (listing t)
+
+-- the answer that the example has
+abbrev pub expected : Example → Answer
+expected (Reads m t s) = Read s
+expected (Lists t xs) = Listed xs
+
+-- each example has its answer: one equation of all answers
 abbrev pub ExamplesHold : Type 0
-ExamplesHold = AllByRecursion Holds examples
+ExamplesHold = map actual examples ≡ map expected examples
