@@ -6,3 +6,4 @@ pub mod Acts
 pub mod Settings
 pub mod Streams
 pub mod Fronts
+pub mod Faults

@@ -1,6 +1,7 @@
 // The reader.
-ghost use Rattle.std.specs.Prelude.{◌≡◌, ◌≢◌};
+ghost use Rattle.std.specs.Prelude.{◌≡◌, ◌≢◌, IfErr};
 ghost use Rattle.rules.specs.Reading.{meaning, Unread};
+ghost use Rattle.rules.specs.Shapes.{Numbered};
 ghost use Rattle.rules.specs.Texts.{verdict as ruled, AllReal};
 ghost use Rattle.syntax.specs.Openings.{openings_of};
 ghost use Rattle.reader.specs.Views.{view_of, config, tell, items_of, ending_of, left_of, Keeps, Lawful};
@@ -26,6 +27,7 @@ impl<'t> Reader<'t> {
     fn verdict<F: Finder>(&self, finder: &F) -> Verdict
         ensures value { result ≡ ruled (F.Finder.openings finder.now) (config self.now) (view_of self.now).core }
         ensures fits { Keeps self.now.reading result }
+        ensures numbered { IfErr result (λ f. Numbered f.kind) }
     {
         let reading = &self.reading;
         let here = Cursor {
@@ -43,6 +45,7 @@ impl<'t> Reader<'t> {
         ensures settings { self.new.settings ≡ self.old.settings }
         ensures ends { (meaning (openings_of self.old.settings) (config self.old) (view_of self.old).core).stop ≢ Unread }
         ensures real { AllReal (openings_of self.old.settings) }
+        ensures numbered { IfErr result (λ f. Numbered f.kind) }
         ensures lawful { Lawful self.old (F.Finder.openings finder.now) → result ≡ (tell (openings_of self.old.settings) (config self.old) (view_of self.old)).answer }
     {
         match self.reading.told {

@@ -1,11 +1,13 @@
 // How far a template is read.
-ghost use Rattle.std.specs.Prelude.{◌≡◌, ◌+◌, ◌-◌, ◌<◌, ◌≤◌, length, Some as already, None as untold};
+ghost use Rattle.std.proofs.Props.{props};
+ghost use Rattle.std.specs.Prelude.{◌≡◌, ◌+◌, ◌-◌, ◌<◌, ◌≤◌, length, IfErr, IfSome, Some as already, None as untold};
 ghost use Rattle.places.specs.Places.{capped};
 ghost use Rattle.rules.specs.At.{place_at, part_at, cut_part};
 ghost use Rattle.rules.specs.Config.{config_of};
 ghost use Rattle.rules.specs.Reading.{act, balance_at};
-ghost use Rattle.rules.specs.Shapes.{held, least, level, magnitude, Forward};
+ghost use Rattle.rules.specs.Shapes.{held, least, level, magnitude, Forward, Numbered};
 ghost use Rattle.rules.specs.Told.{placed};
+ghost use Rattle.utf8.specs.Utf8.{prefix};
 
 use super::chop::left_len;
 use super::parts::{balance_at, fault_span, text_range};
@@ -42,6 +44,8 @@ pub struct Reading<'t> {
     ghost balanced: { magnitude balance ≤ offset },
     ghost agrees: { balance_at balance state ≡ balance },
     ghost here: { place ≡ capped (place_at template.now offset) },
+    ghost wellformed: { prefix template.now ≡ length template.now },
+    ghost numbered: { IfSome told (λ e. IfErr e (λ f. Numbered f.kind)) } by { Prim.hlevel props },
 }
 
 impl<'t> Reading<'t> {
@@ -52,6 +56,7 @@ impl<'t> Reading<'t> {
     pub(crate) fn start(settings: &Settings, state: LexerState, template: &'t [u8]) -> Reading<'t>
         requires small { length template.now ≤ 16777216 }
         requires flat { level state ≡ 0 }
+        requires wellformed { prefix template.now ≡ length template.now }
         ensures template { result.template.now ≡ template.now }
         ensures view { view result ≡ unread (config_of settings.now) state template.now }
         ensures leaves { Leaves (config_of settings.now).keep_trailing template.now (view result).core.ahead }
@@ -109,6 +114,7 @@ impl<'t> Reading<'t> {
 
     // Tells an ending, which is kept.
     fn end(&mut self, ending: Ending<ReadFault>) -> Result<Option<Piece>, ReadFault>
+        requires { IfErr ending (λ f. Numbered f.kind) }
         ensures value { result ≡ told_as ending }
         ensures view { view self.new ≡ record { core = (view self.old).core; place = (view self.old).place; balance = self.old.balance; told = already ending } }
     {
@@ -133,6 +139,7 @@ impl<'t> Reading<'t> {
     // Does what the rules say: takes a piece off, or the cut, or tells the ending.
     pub(crate) fn answer(&mut self, verdict: Verdict) -> Result<Option<Piece>, ReadFault>
         requires fits { Keeps self.old verdict }
+        requires numbered { IfErr verdict (λ f. Numbered f.kind) }
         requires untold { self.old.told ≡ untold }
         ensures value { result ≡ (tell_by (view self.old) (act (view self.old).core verdict)).answer }
         ensures view { view self.new ≡ (tell_by (view self.old) (act (view self.old).core verdict)).after }

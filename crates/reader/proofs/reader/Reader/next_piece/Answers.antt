@@ -1,7 +1,9 @@
-use Rattle.std.proofs.Common.{sym, refl, ap, ◌∙◌}
+use Rattle.std.proofs.Common.{IfErr, sym, refl, ap, ◌∙◌, subst}
 use Rattle.syntax.specs.Openings.{openings_of}
 use Rattle.rules.specs.Reading.{act}
+use Rattle.rules.specs.Shapes.{Numbered}
 use Rattle.reader.specs.Views.{view_of, config, tell_by}
+use Rattle.reader.proofs.Faults.{tells_numbered}
 use Rattle.reader.proofs.Settings.{apart, none_passed}
 use Rattle.reader.proofs.Streams.{reader_ends}
 use Rattle.reader.proofs.Tells.{same_tell, told_now}
@@ -26,5 +28,6 @@ returns-in-None g c =
       settings = refl;
       ends = reader_ends r;
       real = none_passed r.settings;
+      numbered = subst (λ x. IfErr x (λ f. Numbered f.kind)) (sym c.answer.ensures.value) (tells_numbered (view_of r) c.verdict-verdict.result c.verdict-verdict.ensures.numbered);
       lawful = λ h. a ∙ ap (λ x. x.answer) (same_tell os (openings_of r.settings) (apart r.settings) h (config r) (view_of r));
     }

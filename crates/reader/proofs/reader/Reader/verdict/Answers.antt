@@ -1,5 +1,7 @@
-use Rattle.std.proofs.Common.{arith}
+use Rattle.std.proofs.Common.{IfErr, sym, subst, arith}
 use Rattle.std.proofs.lemmas.List.{length-drop}
+use Rattle.rules.specs.Shapes.{Numbered}
+use Rattle.rules.proofs.Faults.{numbered_at}
 use Rattle.reader.specs.Views.{config}
 use Rattle.reader.proofs.Acts.{ruled_at, fits_at}
 use Rattle.reader.proofs.Settings.{ended}
@@ -25,4 +27,5 @@ returns g c =
     record {
       value = v;
       fits = fits_at os (config r) (ended r.settings) r.reading.template.now r.reading.left r.reading.offset r.reading.state r.reading.pending r.reading.cut_told r.reading.within r.reading.inside r.reading.lively c.verdict_at.result v;
+      numbered = subst (λ q. IfErr q (λ f. Numbered f.kind)) (sym v) (numbered_at os (config r) r.reading.template.now r.reading.left r.reading.offset r.reading.state r.reading.pending r.reading.cut_told r.reading.wellformed);
     }

@@ -1,6 +1,6 @@
-use Rattle.std.proofs.Common.{◌≡◌, ◌+◌, ◌-◌, ◌≤◌, length, Some, None, Ok, sym, ap, ◌∙◌, subst, arith, rules}
+use Rattle.std.proofs.Common.{◌≡◌, ◌+◌, ◌-◌, ◌≤◌, length, Some, None, Ok, IfErr, sym, ap, ◌∙◌, subst, arith, rules}
 use Rattle.rules.specs.Reading.{act}
-use Rattle.rules.specs.Shapes.{Forward, Fits}
+use Rattle.rules.specs.Shapes.{Forward, Fits, Numbered}
 use Rattle.reader.specs.Views.{view, tell_by}
 use Rattle.reader.proofs.Acts.{at_end, piece_answer, piece_after, cut_answer, cut_after, end_answer, end_after, fault_answer, fault_after}
 use Rattle.reader.proofs.reading.Reading.answer.Goals as goal
@@ -51,6 +51,9 @@ returns-else-self c =
 
 pub fault-fault-requires : goal.fault-fault-requires
 fault-fault-requires c = subst (λ v. Fits (c.args.self.now.left - c.args.self.now.offset) c.args.self.now.state c.args.self.now.pending v) c.in-Err.is c.requires.fits
+
+pub end-requires-in-Err : goal.end-requires-in-Err
+end-requires-in-Err c = subst Numbered (sym (ap (λ f. f.kind) c.fault-fault.ensures)) (subst (λ v. IfErr v (λ f. Numbered f.kind)) c.in-Err.is c.requires.numbered)
 
 pub returns-in-Err : goal.returns-in-Err
 returns-in-Err c =

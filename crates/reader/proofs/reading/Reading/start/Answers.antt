@@ -7,7 +7,7 @@ use Rattle.reader.proofs.reading.Reading.start.Goals as goal
 
 pub invariant_of-result : goal.invariant_of-result
 invariant_of-result c =
-    record { small = c.requires.small; within = c.left_len.ensures.within; inside = omega arith; lively = omega arith; shallow = omega arith; balanced = omega arith; agrees = balance_flat c.args.state c.requires.flat; here = c.start.ensures.value ∙ start_here c.args.template.now }
+    record { small = c.requires.small; within = c.left_len.ensures.within; inside = omega arith; lively = omega arith; shallow = omega arith; balanced = omega arith; agrees = balance_flat c.args.state c.requires.flat; here = c.start.ensures.value ∙ start_here c.args.template.now; wellformed = c.requires.wellformed; numbered = tt }
 
 pub returns : goal.returns
 returns c =

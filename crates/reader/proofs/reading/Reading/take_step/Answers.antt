@@ -28,6 +28,8 @@ invariant_of-self c =
       balanced = subst (λ z. magnitude z ≤ r.offset + s.len) (sym z) (balance_level r.balance c.balance_at-balance.result s.state r.offset s.len e r.balanced (omega arith));
       agrees = subst (λ x. balance_at x s.state ≡ x) (sym (z ∙ e)) (balance_agrees r.balance s.state);
       here = advanced r.template.now r.offset s.len c.after.result.now c.until.result.now r.place c.advance-end.result r.here c.after.ensures.value c.until.ensures.value c.advance-end.ensures.value;
+      wellformed = r.wellformed;
+      numbered = r.numbered;
     }
 
 pub returns : goal.returns
