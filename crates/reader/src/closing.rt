@@ -1,6 +1,7 @@
 // Closing.
-ghost use Rattle.std.specs.Prelude.{◌≡◌};
+ghost use Rattle.std.specs.Prelude.{◌≡◌, IfErr, IfSome};
 ghost use Rattle.places.specs.Places.{capped};
+ghost use Rattle.rules.specs.Shapes.{Numbered};
 ghost use Rattle.reader.specs.Views.{view_of};
 
 use super::reader::Reader;
@@ -22,6 +23,7 @@ impl<'t> Reader<'t> {
         ensures end { result.end ≡ capped (view_of self.entry).place }
         ensures ending { result.ending ≡ (view_of self.entry).told }
         ensures balance { result.balance ≡ (view_of self.entry).balance }
+        ensures numbered { IfSome result.ending (λ e. IfErr e (λ f. Numbered f.kind)) }
     {
         Closed {
             end: self.reading.place,
