@@ -1,9 +1,7 @@
 -- What waits behind a piece, in the bytes ahead, and what a verdict is to say.
 use Rattle.std.proofs.Common.{◌≡◌, ℕ, zero, suc, ◌+◌, ◌-◌, ◌<◌, ◌≤◌, true, false, List, length, take, drop, Some, None, Ok, Err, sym, refl, subst, arith}
-use Rattle.std.specs.List.{ContainsAt as Has}
 use Rattle.std.proofs.lemmas.List.{length-drop, length-take}
-use Rattle.finder.specs.declared.StartMarker.{StartMarker}
-use Rattle.finder.specs.Finding.{Opening, QualifiesAt}
+use Rattle.finder.specs.Finding.{Opening}
 use Rattle.spaces.specs.Lines.{line_end}
 use Rattle.spaces.specs.Runs.{AllPass}
 use Rattle.pieces.specs.declared.kind.Kind.{Kind}
@@ -13,27 +11,22 @@ use Rattle.rules.specs.declared.Pending.{Pending}
 use Rattle.rules.specs.declared.Pending.TheVariants.{Nothing, Trim, Tail, Marker, RawBody, RawClose}
 use Rattle.rules.specs.declared.whitespace.Whitespace.{Whitespace}
 use Rattle.rules.specs.declared.whitespace.Whitespace.TheVariants.{Default, Preserve, Remove}
-use Rattle.rules.specs.Bytes.{sign_len}
 use Rattle.rules.specs.Config.{Config, white}
 use Rattle.rules.specs.Reading.{left_len}
 use Rattle.rules.specs.State.{Verdict}
 use Rattle.rules.specs.Tags.{tail_of, tail}
-use Rattle.rules.specs.Texts.{opening_sign, closer_at}
+use Rattle.raws.specs.Closers.{Closes}
 use Rattle.rules.proofs.Whole.{part_of}
-use Rattle.runs.specs.Named.{IsNamed}
+use Rattle.runs.specs.Named.{OpensAt, IsRawOpen, IsRawText, IsNamed}
 
--- an opening of this kind qualifies at the place i of u; it has n bytes with the sign behind it that counts
-abbrev pub MarkedAt : List Opening → StartMarker → List ℕ → ℕ → ℕ → Type 0
-MarkedAt os m u i n = (o : Opening) × Has os o × (o.marker ≡ m) × QualifiesAt o u i × (n ≡ length o.bytes + sign_len (opening_sign m (drop (i + length o.bytes) u)))
-
--- what waits stands at the place i of u: white space and an opening, a line end, or a closing tag
+-- what waits stands at the place i of u: white space and an opening, a line end, a raw body behind its tag, or the closing tag behind such a body
 abbrev pub WaitsAt : List Opening → Config → List ℕ → ℕ → Pending → Type 0
 WaitsAt os s u i Nothing = Unit {0}
 WaitsAt os s u i Trim = Unit {0}
 WaitsAt os s u i (Tail n) = line_end (drop i u) ≡ n
-WaitsAt os s u i (Marker g m n) = AllPass (white s) (take g (drop i u)) × MarkedAt os m u (i + g) n
-WaitsAt os s u i (RawBody g) = Unit {0}
-WaitsAt os s u i (RawClose n g) = (r : EndRaw) × (closer_at s (drop i u) ≡ Some r) × (r.len ≡ n)
+WaitsAt os s u i (Marker g m n) = AllPass (white s) (take g (drop i u)) × OpensAt os m u (i + g) n
+WaitsAt os s u i (RawBody g) = (h : ℕ) × IsRawOpen os s u h i
+WaitsAt os s u i (RawClose n g) = (h : ℕ) × IsRawText os s u h i × (r : EndRaw) × Closes s u i r × (r.len ≡ n)
 
 -- any kind but Cut
 abbrev pub NotCut : Kind → Type 0

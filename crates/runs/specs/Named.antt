@@ -1,20 +1,20 @@
--- Nothing misnamed: no opening lies in plain text, and every gap has its form.
-use Rattle.std.specs.Prelude.{◌≡◌, ℕ, ◌+◌, ◌-◌, ◌<◌, ◌≤◌, List, length, take, drop, Some}
+-- Nothing misnamed: no opening lies in plain text, the longest opening names what begins there, and every gap has its form.
+use Rattle.std.specs.Prelude.{◌≡◌, ℕ, ◌+◌, ◌-◌, ◌<◌, ◌≤◌, ◌⊎◌, List, length, take, drop, None, Some}
 use Rattle.std.specs.List.{ContainsAt as Has}
 use Rattle.byte_search.specs.Search.{First, Stands}
 use Rattle.finder.specs.declared.StartMarker.{StartMarker}
-use Rattle.finder.specs.declared.StartMarker.TheVariants.{Block as BlockMarker, Comment as CommentMarker, LineComment as LineCommentMarker}
+use Rattle.finder.specs.declared.StartMarker.TheVariants.{Variable as VariableMarker, Block as BlockMarker, Comment as CommentMarker, LineStatement as StatementMarker, LineComment as LineCommentMarker}
 use Rattle.finder.specs.Finding.{Opening, QualifiesAt}
 use Rattle.spaces.specs.Runs.{AllPass}
 use Rattle.spaces.specs.Lines.{LineEnd}
 use Rattle.pieces.specs.declared.kind.Kind.{Kind}
 use Rattle.pieces.specs.declared.kind.Kind.TheVariants.{Text, RawText, VariableStart, VariableEnd, BlockStart, BlockEnd, Ident, Str, String, Int, Big, Float, Operator as Operates, White, Comment, LineComment, RawOpen, RawClose, Cut}
-use Rattle.rules.specs.Bytes.{sign_at, sign_len, in_line, LongestRun}
+use Rattle.rules.specs.Bytes.{sign_len, in_line, LongestRun}
 use Rattle.rules.specs.Config.{Config, white}
 use Rattle.rules.specs.Reading.{left_len}
 use Rattle.rules.specs.declared.EndRaw.{EndRaw}
-use Rattle.rules.specs.Texts.{Basic, basic_tag, raw_name, closer_at}
-use Rattle.raws.specs.Closers.{TagSpelt, CloserSpelt}
+use Rattle.rules.specs.Texts.{Basic, basic_tag, raw_name, opening_sign}
+use Rattle.raws.specs.Closers.{TagSpelt, CloserSpelt, Closes, FirstCloser}
 use Rattle.runs.specs.Whole.{Spans, Along, pieces_of}
 use Rattle.runs.specs.declared.Reply.{Reply}
 
@@ -22,9 +22,22 @@ use Rattle.runs.specs.declared.Reply.{Reply}
 abbrev pub NoOpening : List Opening → List ℕ → ℕ → ℕ → Type 0
 NoOpening os u i j = (k : ℕ) (o : Opening) → i ≤ k → k < j → Has os o → QualifiesAt o u k → ⊥
 
--- an opening of this kind qualifies at the place i of u; it has n bytes with the sign behind it
+-- the opening qualifies at the place i of u, and none that is longer does
+abbrev pub LongestAt : List Opening → List ℕ → ℕ → Opening → Type 0
+LongestAt os u i o = Has os o × QualifiesAt o u i × ((p : Opening) → Has os p → QualifiesAt p u i → length p.bytes ≤ length o.bytes)
+
+-- the longest opening that qualifies at the place i of u is of this kind; it has n bytes with its sign
 abbrev pub OpensAt : List Opening → StartMarker → List ℕ → ℕ → ℕ → Type 0
-OpensAt os m u i n = (o : Opening) × Has os o × (o.marker ≡ m) × QualifiesAt o u i × (n ≡ length o.bytes + sign_len (sign_at (drop (i + length o.bytes) u)))
+OpensAt os m u i n = (o : Opening) × LongestAt os u i o × (o.marker ≡ m) × (n ≡ length o.bytes + sign_len (opening_sign m (drop (i + length o.bytes) u)))
+
+-- the start of a variable: an opening with its sign
+abbrev pub IsVariableStart : List Opening → List ℕ → ℕ → ℕ → Type 0
+IsVariableStart os u i j = (n : ℕ) × OpensAt os VariableMarker u i n × (j ≡ i + n)
+
+-- the start of a block that is no raw block, or of a line statement: an opening with its sign
+abbrev pub IsBlockStart : List Opening → Config → List ℕ → ℕ → ℕ → Type 0
+IsBlockStart os s u i j =
+    (n : ℕ) × ((OpensAt os BlockMarker u i n × (basic_tag raw_name s.block_end (drop (i + n) u) ≡ None)) ⊎ OpensAt os StatementMarker u i n) × (j ≡ i + n)
 
 -- a comment: an opening with its sign, a body, and the comment end, which stands nowhere before
 abbrev pub IsComment : List Opening → Config → List ℕ → ℕ → ℕ → Type 0
@@ -44,9 +57,13 @@ IsRawOpen os s u i j =
     (n : ℕ) × OpensAt os BlockMarker u i n
     × (t : Basic) × (basic_tag raw_name s.block_end (drop (i + n) u) ≡ Some t) × TagSpelt raw_name s.block_end (drop (i + n) u) (Some t) × (j ≡ i + n + t.0)
 
--- the tag that ends it: the block start with a sign, then blanks, `endraw`, blanks, an optional sign and the block end
-abbrev pub IsRawClose : Config → List ℕ → ℕ → ℕ → Type 0
-IsRawClose s u i j = (r : EndRaw) × (closer_at s (drop i u) ≡ Some r) × CloserSpelt s (drop i u) (Some r) × (j ≡ i + r.len)
+-- the body of a raw block, which begins behind such a tag: all bytes before the first closing tag
+abbrev pub IsRawText : List Opening → Config → List ℕ → ℕ → ℕ → Type 0
+IsRawText os s u i j = (h : ℕ) × IsRawOpen os s u h i × (d : ℕ) × (r : EndRaw) × FirstCloser s (drop i u) (Some (d, r)) × (j ≡ i + d)
+
+-- the closing tag behind such a body: the block start with a sign, then blanks, `endraw`, blanks, an optional sign and the block end
+abbrev pub IsRawClose : List Opening → Config → List ℕ → ℕ → ℕ → Type 0
+IsRawClose os s u i j = (h : ℕ) × IsRawText os s u h i × (r : EndRaw) × Closes s u i r × CloserSpelt s (drop i u) (Some r) × (j ≡ i + r.len)
 
 -- the piece of this kind from i to j is what its kind says; u is what the cut leaves of the template t.
 -- Of tokens that are not text their rules say it; every other byte is of one of these forms.
@@ -56,12 +73,12 @@ IsNamed os s t i j White = AllPass (white s) (take (j - i) (drop i t))
 IsNamed os s t i j Comment = IsComment os s (take (left_len s t) t) i j
 IsNamed os s t i j LineComment = IsLineComment os (take (left_len s t) t) i j
 IsNamed os s t i j RawOpen = IsRawOpen os s (take (left_len s t) t) i j
-IsNamed os s t i j RawClose = IsRawClose s (take (left_len s t) t) i j
+IsNamed os s t i j RawClose = IsRawClose os s (take (left_len s t) t) i j
 IsNamed os s t i j Cut = (i ≡ left_len s t) × (j ≡ length t)
-IsNamed os s t i j RawText = Unit {0}
-IsNamed os s t i j VariableStart = Unit {0}
+IsNamed os s t i j RawText = IsRawText os s (take (left_len s t) t) i j
+IsNamed os s t i j VariableStart = IsVariableStart os (take (left_len s t) t) i j
 IsNamed os s t i j VariableEnd = Unit {0}
-IsNamed os s t i j BlockStart = Unit {0}
+IsNamed os s t i j BlockStart = IsBlockStart os s (take (left_len s t) t) i j
 IsNamed os s t i j BlockEnd = Unit {0}
 IsNamed os s t i j Ident = Unit {0}
 IsNamed os s t i j Str = Unit {0}
