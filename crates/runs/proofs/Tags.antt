@@ -1,11 +1,13 @@
 -- Nothing is misnamed inside tags.
-use Rattle.std.proofs.Common.{◌≡◌, ℕ, zero, suc, ◌+◌, ◌^◌, Bool, true, false, ◌&&◌, ◌||◌, eqb, ltb, List, [], ◌∷◌, length, take, drop, ℤ, Some, None, Ok, Err, Option, Result, sym, refl, ap, ◌∙◌, subst, arith}
-use Rattle.std.proofs.lemmas.List.{drop-drop}
+use Rattle.std.proofs.Common.{◌≡◌, ℕ, zero, suc, ◌+◌, ◌^◌, ◌≤◌, Bool, true, false, ◌&&◌, ◌||◌, eqb, ltb, List, [], ◌∷◌, length, get_or, take, drop, ℤ, Some, None, Ok, Err, Option, Result, sym, refl, ap, ◌∙◌, subst, inl, inr, arith}
+use Rattle.std.proofs.lemmas.List.{drop-drop, length-drop, length-take}
 use Rattle.byte_search.specs.Search.{stands_at, first_in}
 use Rattle.finder.specs.Finding.{Opening}
-use Rattle.spaces.specs.Lines.{blank_run}
-use Rattle.spaces.specs.Runs.{AllPass}
+use Rattle.spaces.specs.Lines.{blank_run, line_end, LineEnd}
+use Rattle.spaces.specs.Runs.{run_after, white_run, AllPass, Longest}
 use Rattle.spaces.specs.Spaces.{white_space}
+use Rattle.spaces.proofs.Lines.{line_told}
+use Rattle.spaces.proofs.Runs.{run_longest as white_longest}
 use Rattle.escape.specs.declared.fault.DecodeFault.{DecodeFault}
 use Rattle.pieces.specs.declared.kind.Kind.TheVariants.{BlockEnd, Ident, Int, Big}
 use Rattle.pieces.specs.declared.kind.Operator.{Operator}
@@ -19,16 +21,20 @@ use Rattle.rules.specs.declared.NumberState.TheVariants.{RadixInteger, Integer, 
 use Rattle.rules.specs.declared.Pending.TheVariants.{Nothing}
 use Rattle.rules.specs.declared.whitespace.Whitespace.{Whitespace}
 use Rattle.rules.specs.declared.whitespace.Whitespace.TheVariants.{Default, Preserve, Remove}
-use Rattle.rules.specs.Config.{Config, white}
-use Rattle.rules.specs.Bytes.{is_digit, is_sign, sign_of, leads_name, is_name_part, run, last_is}
+use Rattle.rules.specs.Config.{Config, white, inline_white}
+use Rattle.rules.specs.Bytes.{is_digit, is_sign, sign_of, leads_name, is_name_part, run, LongestRun, last_is}
 use Rattle.rules.specs.Numbers.{base_of, scan, Scanned, value_of, integer, number_by, scanned, number}
 use Rattle.rules.specs.Reading.{left_len}
 use Rattle.rules.specs.State.{told, plain, Verdict, fault}
 use Rattle.rules.specs.Strings.{quote_end, decoded, string_of, string}
-use Rattle.rules.specs.Tags.{operators, first_standing, dot_behind, literal, token_by, token, end_of, trim_by, closing, closes, close_by, is_zero, close, blanks, statement_end, tag_end, tag_verdict}
-use Rattle.rules.proofs.Lengths.{blank_le}
+use Rattle.rules.specs.Tags.{operators, first_standing, dot_behind, literal, token_by, token, end_of, trim_by, closing, closes, close_by, is_zero, close, blanks, line_rest, statement_end, tag_end, tag_verdict}
+use Rattle.rules.specs.Texts.{Basic, basic_end}
+use Rattle.rules.proofs.Lengths.{blank_le, white_le}
+use Rattle.rules.proofs.Runs.{run_longest}
+use Rattle.runs.specs.Named.{IsEnd, IsStatementEnd}
 use Rattle.runs.proofs.Whites.{blanks_pass}
 use Rattle.runs.proofs.Gaps.{WaitsAt, Holds, tail_waits, left_has, white_named}
+use Rattle.runs.proofs.Reached.{left_le}
 
 module _ (os : List Opening) (s : Config) (t : List ℕ) (i : ℕ) where
   abbrev H : Verdict → Type 0
@@ -84,28 +90,6 @@ module _ (os : List Opening) (s : Config) (t : List ℕ) (i : ℕ) where
     | Some n ↦ string_of_holds m (take n xs)
   ]
 
-  -- tokens
-
-  abbrev name : LexerState → ℕ → List ℕ → Verdict
-  name m x xs = elim (leads_name x) [ true ↦ plain Ident (run is_name_part (x ∷ xs)) m Nothing | false ↦ fault NoToken 0 ]
-
-  name_holds : (m : LexerState) (x : ℕ) (xs : List ℕ) → H (name m x xs)
-  name_holds m x xs = elim (leads_name x) as (λ b. H (elim b [ true ↦ plain Ident (run is_name_part (x ∷ xs)) m Nothing | false ↦ fault NoToken 0 ])) [ true ↦ (tt, tt, tt) | false ↦ tt ]
-
-  literal_holds : (behind : List ℕ) (m : LexerState) (x : ℕ) (xs : List ℕ) → H (literal behind m x xs)
-  unfolding literal
-  literal_holds behind m x xs = elim (eqb x 34 || eqb x 39) as (λ b. H (elim b [ true ↦ string x m xs | false ↦ elim (is_digit x) [ true ↦ number (dot_behind behind) m (x ∷ xs) | false ↦ name m x xs ] ])) [
-    | true ↦ string_holds x m xs
-    | false ↦ elim (is_digit x) as (λ b. H (elim b [ true ↦ number (dot_behind behind) m (x ∷ xs) | false ↦ name m x xs ])) [
-      | true ↦ number_holds (dot_behind behind) m (x ∷ xs)
-      | false ↦ name_holds m x xs
-    ]
-  ]
-
-  token_by_holds : (o : Option Operator) (behind : List ℕ) (k : BlockSentinel) (b : ℤ) (x : ℕ) (xs : List ℕ) → H (token_by o behind k b x xs)
-  token_by_holds None behind k b x xs = literal_holds behind (Inside k b) x xs
-  token_by_holds (Some o) behind k b x xs = (tt, tt, tt)
-
   -- the ends of tags
 
   trim_waits : (g : Whitespace) (j : ℕ) → WaitsAt os s (take (left_len s t) t) j (trim_by g)
@@ -113,68 +97,145 @@ module _ (os : List Opening) (s : Config) (t : List ℕ) (i : ℕ) where
   trim_waits Preserve j = tt
   trim_waits Default j = tt
 
-  module _ (xs : List ℕ) (e : xs ≡ drop i (take (left_len s t) t)) where
-    -- behind so many of the bytes ahead
-    behind_them : (n : ℕ) → drop n xs ≡ drop (i + n) (take (left_len s t) t)
-    behind_them n = ap (drop n) e ∙ drop-drop n i (take (left_len s t) t)
-
-    closing_holds : (k : BlockSentinel) (g : Whitespace) (n : ℕ) → H (closing s k g n xs)
-    closing_holds Variable g n = (tt, tt, trim_waits g (i + n))
-    closing_holds Expression g n = (tt, tt, tt)
-    closing_holds Block g n = (tt, tt, tail_waits os s (take (left_len s t) t) (i + n) g (drop n xs) (behind_them n))
-    closing_holds LineStatement g n = (tt, tt, tt)
+  -- what the cut leaves
+  abbrev left : List ℕ
+  left = take (left_len s t) t
 
   -- a verdict that may not be there
   abbrev HoldsIf : Option Verdict → Type 0
   HoldsIf None = Unit {0}
   HoldsIf (Some v) = H v
 
-  module _ (x : ℕ) (xs : List ℕ) (e : x ∷ xs ≡ drop i (take (left_len s t) t)) where
-    closes_holds : (k : BlockSentinel) (d : List ℕ) → HoldsIf (closes s k d x xs)
-    closes_holds k d =
-        elim (is_sign x && stands_at d xs) as (λ b. HoldsIf (elim b [ true ↦ Some (closing s k (sign_of x) (suc (length d)) (x ∷ xs)) | false ↦ elim (stands_at d (x ∷ xs)) [ true ↦ Some (closing s k Default (length d) (x ∷ xs)) | false ↦ None ] ])) [
-          | true ↦ closing_holds (x ∷ xs) e k (sign_of x) (suc (length d))
-          | false ↦ elim (stands_at d (x ∷ xs)) as (λ b. HoldsIf (elim b [ true ↦ Some (closing s k Default (length d) (x ∷ xs)) | false ↦ None ])) [
-            | true ↦ closing_holds (x ∷ xs) e k Default (length d)
-            | false ↦ tt
-          ]
-        ]
+  -- the end of a line statement that may not be there
+  abbrev EndsIf : Option ℕ → Type 0
+  EndsIf None = Unit {0}
+  EndsIf (Some n) = IsStatementEnd s left i (i + n)
 
-    close_by_holds : (k : BlockSentinel) (o : Option (List ℕ)) → HoldsIf (close_by s k o x xs)
-    close_by_holds k None = tt
-    close_by_holds k (Some d) = closes_holds k d
+  module _ (x : ℕ) (xs : List ℕ) (e : x ∷ xs ≡ drop i left) where
+    -- behind so many of the bytes ahead
+    behind_them : (n : ℕ) → drop n (x ∷ xs) ≡ drop (i + n) left
+    behind_them n = ap (drop n) e ∙ drop-drop n i left
+
+    -- tokens
+
+    abbrev name : LexerState → Bool → Verdict
+    name m b = elim b [ true ↦ plain Ident (run is_name_part (x ∷ xs)) m Nothing | false ↦ fault NoToken 0 ]
+
+    name_holds : (m : LexerState) (b : Bool) → leads_name x ≡ b → H (name m b)
+    name_holds m true f =
+        let n : ℕ = run is_name_part (x ∷ xs) in
+        (tt, (n, subst (λ l. leads_name (get_or l 0 0) ≡ true) e f, subst (λ l. LongestRun is_name_part l n) e (run_longest is_name_part (x ∷ xs)), refl), tt)
+    name_holds m false f = tt
+
+    literal_holds : (behind : List ℕ) (m : LexerState) → H (literal behind m x xs)
+    unfolding literal
+    literal_holds behind m = elim (eqb x 34 || eqb x 39) as (λ b. H (elim b [ true ↦ string x m xs | false ↦ elim (is_digit x) [ true ↦ number (dot_behind behind) m (x ∷ xs) | false ↦ name m (leads_name x) ] ])) [
+      | true ↦ string_holds x m xs
+      | false ↦ elim (is_digit x) as (λ b. H (elim b [ true ↦ number (dot_behind behind) m (x ∷ xs) | false ↦ name m (leads_name x) ])) [
+        | true ↦ number_holds (dot_behind behind) m (x ∷ xs)
+        | false ↦ name_holds m (leads_name x) refl
+      ]
+    ]
+
+    token_by_holds : (behind : List ℕ) (k : BlockSentinel) (b : ℤ) (o : Option Operator) → first_standing operators (x ∷ xs) ≡ o → H (token_by o behind k b x xs)
+    token_by_holds behind k b None f = literal_holds behind (Inside k b)
+    token_by_holds behind k b (Some o) f = (tt, (ap (first_standing operators) (sym e) ∙ f, refl), tt)
+
+    -- ends
+
+    end_named : (d : List ℕ) (r : Basic) → basic_end d 0 (x ∷ xs) ≡ Some r → IsEnd d left i (i + r.0)
+    end_named d r f = (r, ap (basic_end d 0) (sym e) ∙ f, refl)
+
+    module _ (k : BlockSentinel) (d : List ℕ) (each : (r : Basic) → basic_end d 0 (x ∷ xs) ≡ Some r → H (closing s k r.1 r.0 (x ∷ xs))) where
+      abbrev alone : Option Basic
+      alone = elim (stands_at d (x ∷ xs)) [ true ↦ Some (0 + length d, Default) | false ↦ None ]
+
+      abbrev signed : Bool → Option Basic
+      signed b = elim b [ true ↦ Some (0 + suc (length d), sign_of x) | false ↦ alone ]
+
+      closes_by : (b c : Bool) → (is_sign x && stands_at d xs) ≡ b → stands_at d (x ∷ xs) ≡ c
+          → HoldsIf (elim b [ true ↦ Some (closing s k (sign_of x) (suc (length d)) (x ∷ xs)) | false ↦ elim c [ true ↦ Some (closing s k Default (length d) (x ∷ xs)) | false ↦ None ] ])
+      closes_by true c p q =
+          let z : 0 + suc (length d) ≡ suc (length d) = omega arith in
+          each (suc (length d), sign_of x) (ap signed p ∙ ap (λ n. Some (n, sign_of x)) z)
+      closes_by false true p q =
+          let z : 0 + length d ≡ length d = omega arith in
+          each (length d, Default) (ap signed p ∙ ap (λ b. elim b as (λ _. Option Basic) [ true ↦ Some (0 + length d, Default) | false ↦ None ]) q ∙ ap (λ n. Some (n, Default)) z)
+      closes_by false false p q = tt
+
+      closes_holds : HoldsIf (closes s k d x xs)
+      closes_holds = closes_by (is_sign x && stands_at d xs) (stands_at d (x ∷ xs)) refl refl
+
+    close_by_holds : (k : BlockSentinel) → HoldsIf (close_by s k (end_of s k) x xs)
+    close_by_holds Variable = closes_holds Variable s.variable_end (λ r f. (tt, end_named s.variable_end r f, trim_waits r.1 (i + r.0)))
+    close_by_holds Expression = closes_holds Expression s.variable_end (λ r f. (tt, end_named s.variable_end r f, tt))
+    close_by_holds Block = closes_holds Block s.block_end (λ r f. (tt, inl (end_named s.block_end r f), tail_waits os s left (i + r.0) r.1 (drop r.0 (x ∷ xs)) (behind_them r.0)))
+    close_by_holds LineStatement = tt
 
     close_holds : (k : BlockSentinel) (b : ℤ) → HoldsIf (close s k b x xs)
     unfolding close
-    close_holds k b = elim (is_zero b) as (λ z. HoldsIf (elim z [ true ↦ close_by s k (end_of s k) x xs | false ↦ None ])) [ true ↦ close_by_holds k (end_of s k) | false ↦ tt ]
+    close_holds k b = elim (is_zero b) as (λ z. HoldsIf (elim z [ true ↦ close_by s k (end_of s k) x xs | false ↦ None ])) [ true ↦ close_by_holds k | false ↦ tt ]
 
     inside_holds : (behind : List ℕ) (k : BlockSentinel) (b : ℤ) (r : Option Verdict) → HoldsIf r → H (elim r [ Some v ↦ v | None ↦ token behind k b x xs ])
-    inside_holds behind k b None h = token_by_holds (first_standing operators (x ∷ xs)) behind k b x xs
+    inside_holds behind k b None h = token_by_holds behind k b (first_standing operators (x ∷ xs)) refl
     inside_holds behind k b (Some v) h = h
 
     blanks_holds : s.spaces ≡ white_space → (behind : List ℕ) (k : BlockSentinel) (b : ℤ) (n : ℕ) → n ≡ blank_run (x ∷ xs) → H (blanks s behind k b x xs n)
     blanks_holds w behind k b zero f = inside_holds behind k b (close s k b x xs) (close_holds k b)
     blanks_holds w behind k b (suc n) f =
-        let u : List ℕ = take (left_len s t) t in
-        let a : AllPass (white s) (take (suc n) (drop i u)) = subst (λ l. AllPass (white s) (take (suc n) l)) e (subst (λ j. AllPass (white s) (take j (x ∷ xs))) (sym f) (blanks_pass s w (x ∷ xs))) in
+        let a : AllPass (white s) (take (suc n) (drop i left)) = subst (λ l. AllPass (white s) (take (suc n) l)) e (subst (λ j. AllPass (white s) (take j (x ∷ xs))) (sym f) (blanks_pass s w (x ∷ xs))) in
         let l = blank_le (x ∷ xs) in
         let z = ap length e in
         (tt, white_named os s t i (suc n) (left_has t (left_len s t) i (suc n) (omega arith) (omega arith)) a, tt)
 
-    statement_holds : s.spaces ≡ white_space → (behind : List ℕ) (k : BlockSentinel) (b : ℤ) → H (elim (statement_end s k b (x ∷ xs)) [ Some n ↦ plain BlockEnd n Template Nothing | None ↦ blanks s behind k b x xs (blank_run (x ∷ xs)) ])
-    statement_holds w behind k b = elim (statement_end s k b (x ∷ xs)) as (λ r. H (elim r [ Some n ↦ plain BlockEnd n Template Nothing | None ↦ blanks s behind k b x xs (blank_run (x ∷ xs)) ])) [
-      | Some n ↦ (tt, tt, tt)
-      | None ↦ blanks_holds w behind k b (blank_run (x ∷ xs)) refl
-    ]
+    -- the ends of line statements
 
-  end_holds : (k : BlockSentinel) → H (tag_end k)
-  end_holds Variable = tt
-  end_holds Block = tt
-  end_holds Expression = tt
-  end_holds LineStatement = (tt, tt, tt)
+    abbrev spaces : ℕ
+    spaces = white_run (inline_white s) (x ∷ xs)
+
+    spaces_longest : Longest (inline_white s) (drop i left) spaces
+    spaces_longest = subst (λ l. Longest (inline_white s) l spaces) e (white_longest (inline_white s) (x ∷ xs))
+
+    line_ends : (n : ℕ) → n ≡ line_end (drop spaces (x ∷ xs)) → LineEnd (drop (i + spaces) left) n
+    line_ends n f = line_told (drop (i + spaces) left) n (f ∙ ap line_end (behind_them spaces))
+
+    rest_ends : (ys : List ℕ) → ys ≡ drop spaces (x ∷ xs) → EndsIf (line_rest spaces ys)
+    rest_ends [] f =
+        let a = ap length f in
+        let b = ap length e in
+        let w = white_le (inline_white s) (x ∷ xs) in
+        (spaces, spaces_longest, 0, line_ends 0 (ap line_end f), omega arith, inr (omega (arith, length-drop spaces (x ∷ xs), length-drop i left)))
+    rest_ends (y ∷ ys) f = some_end (line_end (y ∷ ys)) (ap line_end f)
+      where
+        some_end : (n : ℕ) → n ≡ line_end (drop spaces (x ∷ xs)) → EndsIf (elim n [ zero ↦ None | suc k ↦ Some (spaces + suc k) ])
+        some_end zero g = tt
+        some_end (suc k) g = (spaces, spaces_longest, suc k, line_ends (suc k) g, omega arith, inl (omega arith))
+
+    statement_ends : (k : BlockSentinel) (b : ℤ) → EndsIf (statement_end s k b (x ∷ xs))
+    statement_ends Variable b = tt
+    statement_ends Block b = tt
+    statement_ends Expression b = tt
+    statement_ends LineStatement b = elim (is_zero b) as (λ z. EndsIf (elim z [ true ↦ line_rest spaces (drop spaces (x ∷ xs)) | false ↦ None ])) [ true ↦ rest_ends (drop spaces (x ∷ xs)) refl | false ↦ tt ]
+
+    statement_by : s.spaces ≡ white_space → (behind : List ℕ) (k : BlockSentinel) (b : ℤ) (r : Option ℕ) → EndsIf r → H (elim r [ Some n ↦ plain BlockEnd n Template Nothing | None ↦ blanks s behind k b x xs (blank_run (x ∷ xs)) ])
+    statement_by w behind k b (Some n) h = (tt, inr h, tt)
+    statement_by w behind k b None h = blanks_holds w behind k b (blank_run (x ∷ xs)) refl
+
+  -- at the template's end
+  end_holds : (k : BlockSentinel) → i ≤ left_len s t → [] ≡ drop i left → H (tag_end k)
+  unfolding run_after
+  end_holds Variable h e = tt
+  end_holds Block h e = tt
+  end_holds Expression h e = tt
+  end_holds LineStatement h e =
+      let a = ap length e in
+      let z : i + 0 ≡ i = omega arith in
+      let l : Longest (inline_white s) (drop i left) 0 = subst (λ l. Longest (inline_white s) l 0) e (white_longest (inline_white s) []) in
+      let n : LineEnd (drop (i + 0) left) 0 = line_told (drop (i + 0) left) 0 (ap line_end (e ∙ ap (λ k. drop k left) (sym z))) in
+      (tt, inr (0, l, 0, n, omega arith, inr (omega (arith, length-drop i left, length-take (left_len s t) t, left_le s t))), tt)
 
   -- inside a tag a piece is what its kind says, and so is what waits behind it
-  pub tag_holds : s.spaces ≡ white_space → (behind : List ℕ) (k : BlockSentinel) (b : ℤ) (xs : List ℕ) → xs ≡ drop i (take (left_len s t) t) → H (tag_verdict s behind k b xs)
+  pub tag_holds : s.spaces ≡ white_space → i ≤ left_len s t → (behind : List ℕ) (k : BlockSentinel) (b : ℤ) (xs : List ℕ) → xs ≡ drop i left → H (tag_verdict s behind k b xs)
   unfolding tag_verdict
-  tag_holds w behind k b [] e = end_holds k
-  tag_holds w behind k b (x ∷ xs) e = statement_holds x xs e w behind k b
+  tag_holds w h behind k b [] e = end_holds k h e
+  tag_holds w h behind k b (x ∷ xs) e = statement_by x xs e w behind k b (statement_end s k b (x ∷ xs)) (statement_ends x xs e k b)

@@ -1,19 +1,22 @@
--- Nothing misnamed: no opening lies in plain text, the longest opening names what begins there, and every gap has its form.
-use Rattle.std.specs.Prelude.{◌≡◌, ℕ, ◌+◌, ◌-◌, ◌<◌, ◌≤◌, ◌⊎◌, List, length, take, drop, None, Some}
+-- Nothing misnamed: no opening lies in plain text, the longest opening names what it begins, and every piece but strings and numbers has its form.
+use Rattle.std.specs.Prelude.{◌≡◌, ℕ, ◌+◌, ◌-◌, ◌<◌, ◌≤◌, ◌⊎◌, true, List, length, take, drop, None, Some, slice_index}
 use Rattle.std.specs.List.{ContainsAt as Has}
 use Rattle.byte_search.specs.Search.{First, Stands}
 use Rattle.finder.specs.declared.StartMarker.{StartMarker}
 use Rattle.finder.specs.declared.StartMarker.TheVariants.{Variable as VariableMarker, Block as BlockMarker, Comment as CommentMarker, LineStatement as StatementMarker, LineComment as LineCommentMarker}
 use Rattle.finder.specs.Finding.{Opening, QualifiesAt}
-use Rattle.spaces.specs.Runs.{AllPass}
+use Rattle.spaces.specs.Runs.{AllPass, Longest}
 use Rattle.spaces.specs.Lines.{LineEnd}
 use Rattle.pieces.specs.declared.kind.Kind.{Kind}
 use Rattle.pieces.specs.declared.kind.Kind.TheVariants.{Text, RawText, VariableStart, VariableEnd, BlockStart, BlockEnd, Ident, Str, String, Int, Big, Float, Operator as Operates, White, Comment, LineComment, RawOpen, RawClose, Cut}
-use Rattle.rules.specs.Bytes.{sign_len, in_line, LongestRun}
-use Rattle.rules.specs.Config.{Config, white}
+use Rattle.pieces.specs.declared.kind.Operator.{Operator}
+use Rattle.pieces.specs.Kinds.{operator_text}
+use Rattle.rules.specs.Bytes.{sign_len, in_line, leads_name, is_name_part, LongestRun}
+use Rattle.rules.specs.Config.{Config, white, inline_white}
 use Rattle.rules.specs.Reading.{left_len}
 use Rattle.rules.specs.declared.EndRaw.{EndRaw}
-use Rattle.rules.specs.Texts.{Basic, basic_tag, raw_name, opening_sign}
+use Rattle.rules.specs.Tags.{operators, first_standing}
+use Rattle.rules.specs.Texts.{Basic, basic_end, basic_tag, raw_name, opening_sign}
 use Rattle.raws.specs.Closers.{TagSpelt, CloserSpelt, Closes, FirstCloser}
 use Rattle.runs.specs.Whole.{Spans, Along, pieces_of}
 use Rattle.runs.specs.declared.Reply.{Reply}
@@ -38,6 +41,23 @@ IsVariableStart os u i j = (n : ℕ) × OpensAt os VariableMarker u i n × (j �
 abbrev pub IsBlockStart : List Opening → Config → List ℕ → ℕ → ℕ → Type 0
 IsBlockStart os s u i j =
     (n : ℕ) × ((OpensAt os BlockMarker u i n × (basic_tag raw_name s.block_end (drop (i + n) u) ≡ None)) ⊎ OpensAt os StatementMarker u i n) × (j ≡ i + n)
+
+-- the end of a tag: an optional sign, which is tried first, and the bytes of the end
+abbrev pub IsEnd : List ℕ → List ℕ → ℕ → ℕ → Type 0
+IsEnd end u i j = (r : Basic) × (basic_end end 0 (drop i u) ≡ Some r) × (j ≡ i + r.0)
+
+-- the end of a line statement: White_Space other than CR and LF, as much as there is, and behind it one line end, or nothing
+abbrev pub IsStatementEnd : Config → List ℕ → ℕ → ℕ → Type 0
+IsStatementEnd s u i j =
+    (a : ℕ) × Longest (inline_white s) (drop i u) a × (b : ℕ) × LineEnd (drop (i + a) u) b × (j ≡ i + a + b) × ((0 < b) ⊎ (j ≡ length u))
+
+-- an identifier: a byte that leads one, and all the bytes behind it that one is made of
+abbrev pub IsIdent : List ℕ → ℕ → ℕ → Type 0
+IsIdent u i j = (n : ℕ) × (leads_name (slice_index (drop i u) 0) ≡ true) × LongestRun is_name_part (drop i u) n × (j ≡ i + n)
+
+-- an operator: the first of them whose bytes stand there
+abbrev pub IsOperator : Operator → List ℕ → ℕ → ℕ → Type 0
+IsOperator o u i j = (first_standing operators (drop i u) ≡ Some o) × (j ≡ i + length (operator_text o))
 
 -- a comment: an opening with its sign, a body, and the comment end, which stands nowhere before
 abbrev pub IsComment : List Opening → Config → List ℕ → ℕ → ℕ → Type 0
@@ -66,7 +86,7 @@ abbrev pub IsRawClose : List Opening → Config → List ℕ → ℕ → ℕ →
 IsRawClose os s u i j = (h : ℕ) × IsRawText os s u h i × (r : EndRaw) × Closes s u i r × CloserSpelt s (drop i u) (Some r) × (j ≡ i + r.len)
 
 -- the piece of this kind from i to j is what its kind says; u is what the cut leaves of the template t.
--- Of tokens that are not text their rules say it; every other byte is of one of these forms.
+-- Of strings and numbers their rules say it; every other piece has one of these forms.
 abbrev pub IsNamed : List Opening → Config → List ℕ → ℕ → ℕ → Kind → Type 0
 IsNamed os s t i j Text = NoOpening os (take (left_len s t) t) i j
 IsNamed os s t i j White = AllPass (white s) (take (j - i) (drop i t))
@@ -77,16 +97,16 @@ IsNamed os s t i j RawClose = IsRawClose os s (take (left_len s t) t) i j
 IsNamed os s t i j Cut = (i ≡ left_len s t) × (j ≡ length t)
 IsNamed os s t i j RawText = IsRawText os s (take (left_len s t) t) i j
 IsNamed os s t i j VariableStart = IsVariableStart os (take (left_len s t) t) i j
-IsNamed os s t i j VariableEnd = Unit {0}
+IsNamed os s t i j VariableEnd = IsEnd s.variable_end (take (left_len s t) t) i j
 IsNamed os s t i j BlockStart = IsBlockStart os s (take (left_len s t) t) i j
-IsNamed os s t i j BlockEnd = Unit {0}
-IsNamed os s t i j Ident = Unit {0}
+IsNamed os s t i j BlockEnd = IsEnd s.block_end (take (left_len s t) t) i j ⊎ IsStatementEnd s (take (left_len s t) t) i j
+IsNamed os s t i j Ident = IsIdent (take (left_len s t) t) i j
+IsNamed os s t i j (Operates o) = IsOperator o (take (left_len s t) t) i j
 IsNamed os s t i j Str = Unit {0}
 IsNamed os s t i j String = Unit {0}
 IsNamed os s t i j Int = Unit {0}
 IsNamed os s t i j Big = Unit {0}
 IsNamed os s t i j Float = Unit {0}
-IsNamed os s t i j (Operates o) = Unit {0}
 
 -- every piece that is told lies where the one before it ended, and is what its kind says
 abbrev pub Named : List Opening → Config → List ℕ → List Reply → Type 0
