@@ -8,7 +8,8 @@ use Rattle.pieces.specs.declared.fault.FaultKind.TheVariants.{UnendedComment, Un
 use Rattle.pieces.specs.declared.fault.ReadFault.{ReadFault}
 use Rattle.rules.specs.Reading.{Stop, Done, Failing, Unread}
 use Rattle.rules.specs.Told.{one_on, fault_span, ended}
-use Rattle.runs.specs.Resting.{Item, Amounts, LinesAgree, OffsetsAgree, ColumnsAgree, PlacesAgree, ItemsAgree, FaultsAgree}
+use Rattle.runs.specs.Piles.{Item}
+use Rattle.runs.specs.Resting.{Amounts, LinesAgree, OffsetsAgree, ColumnsAgree, PlacesAgree, ItemsAgree, FaultsAgree}
 
 -- two numbers are two others with one amount added, up to a cap
 pub record Apart (cap a b m n : ℕ) : Type 0 where

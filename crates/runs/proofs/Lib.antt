@@ -10,6 +10,8 @@ pub mod Words
 pub mod Splits
 pub mod Amounts
 pub mod Piles
+pub mod Bare
+pub mod Turns
 pub mod Pairs
 pub mod Resting
 pub mod Driven

@@ -20,7 +20,8 @@ use Rattle.reader.specs.Rests.{in_text, nothing_waits, failed, rests}
 use Rattle.runs.specs.declared.Ask.TheVariants.{Next, Rest}
 use Rattle.runs.specs.Calls.{Asked, reply, behind_call, replies, LawfulCall, AllLawful}
 use Rattle.runs.specs.Whole.{piece_of, Along}
-use Rattle.runs.specs.Resting.{Meaning, item_in, meaning_of, Amounts, AnswersAgree, AllAgree, answer_in, RepliesAgree}
+use Rattle.runs.specs.Piles.{Meaning, Item, item_in, meaning_of}
+use Rattle.runs.specs.Resting.{Amounts, AnswersAgree, AllAgree, answer_in, RepliesAgree}
 use Rattle.runs.proofs.Reached.{now_le, Reached, Lies, along_call}
 use Rattle.runs.proofs.Covered.{Any, AnyKind}
 use Rattle.runs.proofs.Amounts.{ItemsApart, EndsApart, Level, items_agree, faults_agree, beyond_level, capped_apart, offset_apart, ended_apart}
@@ -204,10 +205,10 @@ module _ (os : List Opening) (s : Config) (ends : Ended s) (apart : Distinct os)
 
     -- what the readings mean
 
-    abbrev Reads : ℕ → List ℕ → View → Meaning
+    abbrev Reads : ℕ → List ℕ → View → Meaning Item
     Reads n t v = record { items = map (item_in t) (pieces v.place (reading n os s v.core).parts); ending = ending v.place (reading n os s v.core) }
 
-    abbrev Goes : ℕ → List ℕ → View → Call → Meaning
+    abbrev Goes : ℕ → List ℕ → View → Call → Meaning Item
     Goes n t v r = record {
       items = map (item_in t) (pieces v.place (elim r as (λ _. Parts) [ Gives p c ↦ first p (reading n os s c) | Stops e ↦ only e ]).parts);
       ending = ending v.place (elim r as (λ _. Parts) [ Gives p c ↦ first p (reading n os s c) | Stops e ↦ only e ]);
@@ -228,7 +229,7 @@ module _ (os : List Opening) (s : Config) (ends : Ended s) (apart : Distinct os)
         goes (Stops e) ih x y = record { items = tt; ending = ended_apart d e v.place w.place h.level }
 
     -- what a view means, by what it told
-    abbrev Means : List ℕ → View → Option (Ending ReadFault) → Meaning
+    abbrev Means : List ℕ → View → Option (Ending ReadFault) → Meaning Item
     Means t v o = record {
       items = map (item_in t) (elim o as (λ _. List Piece) [ Some e ↦ [] | None ↦ pieces v.place (meaning os s v.core).parts ]);
       ending = elim o as (λ _. Ending ReadFault) [ Some e ↦ e | None ↦ ending v.place (meaning os s v.core) ];

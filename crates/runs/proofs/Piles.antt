@@ -1,5 +1,5 @@
 -- Layers keep two meanings apart by the same amounts, and calls on equal piles agree.
-use Rattle.std.proofs.Common.{◌≡◌, ℕ, ◌+◌, ◌<◌, min, Bool, true, false, not, eqb, List, [], ◌∷◌, cond, map, drop, Some, None, Ok, Err, Option, sym, ap, ◌∙◌, subst, ⊎_elim, arith}
+use Rattle.std.proofs.Common.{◌≡◌, ℕ, ◌+◌, ◌<◌, min, Bool, true, false, not, eqb, List, [], ◌∷◌, cond, map, drop, Some, None, Ok, Err, Option, Result, sym, refl, ap, ◌∙◌, subst, ⊎_elim, arith}
 use Rattle.std.proofs.lemmas.Bool.{cases_Bool, both_ways, eqb-true, eq-eqb}
 use Rattle.stream.specs.Told.{Ending, Next, Look}
 use Rattle.places.specs.declared.Place.{Place}
@@ -7,10 +7,13 @@ use Rattle.places.specs.Places.{line_cap, offset_cap}
 use Rattle.pieces.specs.Kinds.{is_gap}
 use Rattle.pieces.specs.declared.fault.ReadFault.{ReadFault}
 use Rattle.layers.specs.Layers.{drop_gaps, first_line, end_line, on_first, shift_column, shift_place, shift_end, fault_line, shift_fault}
-use Rattle.runs.specs.Resting.{Item, Layer, Tokens, Shift, LookAhead, Meaning, item_gap, item_line, shift_item, layer_over, pile_over, has_shift, PileCall, Takes, Looks, Answer, Allowed, Amounts, ColumnsAgree, AnswersAgree, AllAgree}
+use Rattle.runs.specs.Piles.{Layer, Tokens, Shift, LookAhead, Meaning, layer_over, pile_over, has_shift, Tells, AllTold, Item, item_gap, item_line, shift_item, of_items, Answer}
+use Rattle.runs.specs.declared.pile.PileCall.{PileCall}
+use Rattle.runs.specs.declared.pile.PileCall.TheVariants.{Takes, Looks}
+use Rattle.runs.specs.Resting.{Amounts, ColumnsAgree, AnswersAgree, AllAgree}
 use Rattle.runs.proofs.Amounts.{Apart, PlacesApart, ItemsApart, EndsApart, items_agree, faults_agree}
 
-pub record MeaningsApart (x : Bool) (d : Amounts) (m n : Meaning) : Type 0 where
+pub record MeaningsApart (x : Bool) (d : Amounts) (m n : Meaning Item) : Type 0 where
   pub items : AllAgree (ItemsApart x d) m.items n.items
   pub ending : EndsApart x d m.ending n.ending
 
@@ -116,7 +119,7 @@ module _ (x : Bool) (d : Amounts) (base : Place) where
     finish = place_shifts f g a.span.end b.span.end h k.finish;
   }
 
-  shift_apart : (m n : Meaning) → MeaningsApart x d m n → MeaningsApart true d (layer_over (Shift base) m) (layer_over (Shift base) n)
+  shift_apart : (m n : Meaning Item) → MeaningsApart x d m n → MeaningsApart true d (layer_over of_items (Shift base) m) (layer_over of_items (Shift base) n)
   shift_apart m n h =
       let f = first_line item_line fault_line m.items m.ending in
       let g = first_line item_line fault_line n.items n.ending in
@@ -124,32 +127,57 @@ module _ (x : Bool) (d : Amounts) (base : Place) where
       record { items = items_shift f g m.items n.items k h.items; ending = end_shifts f g m.ending n.ending k h.ending }
 
 -- equal piles over two meanings
-pub pile_apart : (ls : List Layer) (d : Amounts) (m n : Meaning) → MeaningsApart false d m n → MeaningsApart (has_shift ls) d (pile_over ls m) (pile_over ls n)
-unfolding pile_over has_shift
+pub pile_apart : (ls : List Layer) (d : Amounts) (m n : Meaning Item) → MeaningsApart false d m n → MeaningsApart (has_shift ls) d (pile_over of_items ls m) (pile_over of_items ls n)
+unfolding has_shift
 pile_apart [] d m n h = h
 pile_apart (Tokens ∷ ls) d m n h =
     let k = pile_apart ls d m n h in
-    record { items = tokens_apart (has_shift ls) d (pile_over ls m).items (pile_over ls n).items k.items; ending = k.ending }
-pile_apart (Shift base ∷ ls) d m n h = shift_apart (has_shift ls) d base (pile_over ls m) (pile_over ls n) (pile_apart ls d m n h)
+    record { items = tokens_apart (has_shift ls) d (pile_over of_items ls m).items (pile_over of_items ls n).items k.items; ending = k.ending }
+pile_apart (Shift base ∷ ls) d m n h = shift_apart (has_shift ls) d base (pile_over of_items ls m) (pile_over of_items ls n) (pile_apart ls d m n h)
 pile_apart (LookAhead ∷ ls) d m n h = pile_apart ls d m n h
 
 -- calls on them
 
 -- what the first of these items tells, and with none the ending
-abbrev told_by : List Item → Ending ReadFault → Answer
+abbrev pub told_by : {I : Type 0} → List I → Ending ReadFault → Result (Option I) ReadFault
 told_by [] (Ok u) = Ok None
 told_by [] (Err f) = Err f
 told_by (x ∷ xs) e = Ok (Some x)
 
-next_is : (is js : List Item) (e f : Ending ReadFault) (a : Answer) → Next is e a js f → (a ≡ told_by is e) × (js ≡ drop 1 is) × (f ≡ e)
-next_is is js e f (Ok (Some x)) h = (sym (ap (λ l. told_by l e) h.0), sym (ap (drop 1) h.0), h.1)
-next_is is js e f (Ok None) h = (sym (ap (λ l. told_by l e) h.0 ∙ ap (told_by []) h.1), h.2 ∙ sym (ap (drop 1) h.0), h.3)
-next_is is js e f (Err g) h = (sym (ap (λ l. told_by l e) h.0 ∙ ap (told_by []) h.1), h.2 ∙ sym (ap (drop 1) h.0), h.3)
+-- what a call leaves of them
+abbrev pub left_by : {I : Type 0} → PileCall → List I → List I
+left_by Takes xs = drop 1 xs
+left_by Looks xs = xs
 
-look_is : (is : List Item) (e : Ending ReadFault) (a : Answer) → Look is e a → a ≡ told_by is e
-look_is is e (Ok (Some x)) h = sym (ap (λ l. told_by l e) h)
-look_is is e (Ok None) h = sym (ap (λ l. told_by l e) h.0 ∙ ap (told_by []) h.1)
-look_is is e (Err g) h = sym (ap (λ l. told_by l e) h.0 ∙ ap (told_by []) h.1)
+module _ {I : Type 0} where
+  next_is : (is js : List I) (e f : Ending ReadFault) (a : Result (Option I) ReadFault) → Next is e a js f → (a ≡ told_by is e) × (js ≡ drop 1 is) × (f ≡ e)
+  next_is is js e f (Ok (Some x)) h = (sym (ap (λ l. told_by l e) h.0), sym (ap (drop 1) h.0), h.1)
+  next_is is js e f (Ok None) h = (sym (ap (λ l. told_by l e) h.0 ∙ ap (told_by []) h.1), h.2 ∙ sym (ap (drop 1) h.0), h.3)
+  next_is is js e f (Err g) h = (sym (ap (λ l. told_by l e) h.0 ∙ ap (told_by []) h.1), h.2 ∙ sym (ap (drop 1) h.0), h.3)
+
+  look_is : (is : List I) (e : Ending ReadFault) (a : Result (Option I) ReadFault) → Look is e a → a ≡ told_by is e
+  look_is is e (Ok (Some x)) h = sym (ap (λ l. told_by l e) h)
+  look_is is e (Ok None) h = sym (ap (λ l. told_by l e) h.0 ∙ ap (told_by []) h.1)
+  look_is is e (Err g) h = sym (ap (λ l. told_by l e) h.0 ∙ ap (told_by []) h.1)
+
+  -- the contracts allow one answer and leave one meaning
+  pub tells_is : (c : PileCall) (m n : Meaning I) (a : Result (Option I) ReadFault) → Tells m c a n → (a ≡ told_by m.items m.ending) × (n.items ≡ left_by c m.items) × (n.ending ≡ m.ending)
+  tells_is Takes m n a h = next_is m.items n.items m.ending n.ending a h
+  tells_is Looks m n a h = (look_is m.items m.ending a h.0, h.1, h.2)
+
+  next_tells : (is : List I) (e : Ending ReadFault) → Next is e (told_by is e) (drop 1 is) e
+  next_tells [] (Ok u) = (refl, refl, refl, refl)
+  next_tells [] (Err f) = (refl, refl, refl, refl)
+  next_tells (x ∷ xs) e = (refl, refl)
+
+  look_tells : (is : List I) (e : Ending ReadFault) → Look is e (told_by is e)
+  look_tells [] (Ok u) = (refl, refl)
+  look_tells [] (Err f) = (refl, refl)
+  look_tells (x ∷ xs) e = refl
+
+  pub is_told : (c : PileCall) (m : Meaning I) → Tells m c (told_by m.items m.ending) (record { items = left_by c m.items; ending = m.ending })
+  is_told Takes m = next_tells m.items m.ending
+  is_told Looks m = (look_tells m.items m.ending, refl, refl)
 
 end_tells : (x : Bool) (d : Amounts) (e f : Ending ReadFault) → EndsApart x d e f → AnswersAgree x d (told_by [] e) (told_by [] f)
 end_tells x d (Ok u) (Ok v) h = tt
@@ -164,34 +192,33 @@ told_apart x d [] (j ∷ js) e f h k = absurd h
 told_apart x d (i ∷ is) [] e f h k = absurd h
 told_apart x d (i ∷ is) (j ∷ js) e f h k = items_agree x d i j h.0
 
-rest_apart : {A : Type 0} (R : A → A → Type 0) (is js : List A) → AllAgree R is js → AllAgree R (drop 1 is) (drop 1 js)
+left_apart : {A : Type 0} (R : A → A → Type 0) (c : PileCall) (is js : List A) → AllAgree R is js → AllAgree R (left_by c is) (left_by c js)
 unfolding AllAgree
-rest_apart R [] [] h = tt
-rest_apart R [] (j ∷ js) h = absurd h
-rest_apart R (i ∷ is) [] h = absurd h
-rest_apart R (i ∷ is) (j ∷ js) h = h.1
+left_apart R Looks is js h = h
+left_apart R Takes [] [] h = tt
+left_apart R Takes [] (j ∷ js) h = absurd h
+left_apart R Takes (i ∷ is) [] h = absurd h
+left_apart R Takes (i ∷ is) (j ∷ js) h = h.1
 
 -- one answer on each side that the contracts allow
-both_told : (x : Bool) (d : Amounts) (m n : Meaning) (a b : Answer) → MeaningsApart x d m n → a ≡ told_by m.items m.ending → b ≡ told_by n.items n.ending → AnswersAgree x d a b
+both_told : (x : Bool) (d : Amounts) (m n : Meaning Item) (a b : Answer) → MeaningsApart x d m n → a ≡ told_by m.items m.ending → b ≡ told_by n.items n.ending → AnswersAgree x d a b
 both_told x d m n a b h p q = subst (λ r. AnswersAgree x d r b) (sym p) (subst (AnswersAgree x d (told_by m.items m.ending)) (sym q) (told_apart x d m.items n.items m.ending n.ending h.items h.ending))
 
--- what next leaves on each side
-both_left : (x : Bool) (d : Amounts) (m n : Meaning) → MeaningsApart x d m n → (k l : Meaning) → k.items ≡ drop 1 m.items → k.ending ≡ m.ending → l.items ≡ drop 1 n.items → l.ending ≡ n.ending → MeaningsApart x d k l
-both_left x d m n h k l p q u v = record {
-  items = subst (λ is. AllAgree (ItemsApart x d) is l.items) (sym p) (subst (AllAgree (ItemsApart x d) (drop 1 m.items)) (sym u) (rest_apart (ItemsApart x d) m.items n.items h.items));
+-- what a call leaves on each side
+both_left : (x : Bool) (d : Amounts) (c : PileCall) (m n k l : Meaning Item) → MeaningsApart x d m n → k.items ≡ left_by c m.items → k.ending ≡ m.ending → l.items ≡ left_by c n.items → l.ending ≡ n.ending → MeaningsApart x d k l
+both_left x d c m n k l h p q u v = record {
+  items = subst (λ is. AllAgree (ItemsApart x d) is l.items) (sym p) (subst (AllAgree (ItemsApart x d) (left_by c m.items)) (sym u) (left_apart (ItemsApart x d) c m.items n.items h.items));
   ending = subst (λ e. EndsApart x d e l.ending) (sym q) (subst (EndsApart x d m.ending) (sym v) h.ending);
 }
 
-pub calls_agree : (x : Bool) (d : Amounts) (cs : List PileCall) (m n : Meaning) (xs ys : List Answer) → MeaningsApart x d m n → Allowed m cs xs → Allowed n cs ys → AllAgree (AnswersAgree x d) xs ys
-unfolding AllAgree Allowed
+pub calls_agree : (x : Bool) (d : Amounts) (cs : List PileCall) (m n : Meaning Item) (xs ys : List Answer) → MeaningsApart x d m n → AllTold m cs xs → AllTold n cs ys → AllAgree (AnswersAgree x d) xs ys
+unfolding AllAgree AllTold
 calls_agree x d [] m n [] [] h p q = tt
 calls_agree x d [] m n [] (b ∷ ys) h p q = absurd q
 calls_agree x d [] m n (a ∷ xs) ys h p q = absurd p
 calls_agree x d (c ∷ cs) m n [] ys h p q = absurd p
 calls_agree x d (c ∷ cs) m n (a ∷ xs) [] h p q = absurd q
-calls_agree x d (Takes ∷ cs) m n (a ∷ xs) (b ∷ ys) h (k, p, u) (l, q, v) =
-    let f = next_is m.items k.items m.ending k.ending a p in
-    let g = next_is n.items l.items n.ending l.ending b q in
-    (both_told x d m n a b h f.0 g.0, calls_agree x d cs k l xs ys (both_left x d m n h k l f.1 f.2 g.1 g.2) u v)
-calls_agree x d (Looks ∷ cs) m n (a ∷ xs) (b ∷ ys) h (p, u) (q, v) =
-    (both_told x d m n a b h (look_is m.items m.ending a p) (look_is n.items n.ending b q), calls_agree x d cs m n xs ys h u v)
+calls_agree x d (c ∷ cs) m n (a ∷ xs) (b ∷ ys) h (k, p, u) (l, q, v) =
+    let f = tells_is c m k a p in
+    let g = tells_is c n l b q in
+    (both_told x d m n a b h f.0 g.0, calls_agree x d cs k l xs ys (both_left x d c m n k l h f.1 f.2 g.1 g.2) u v)

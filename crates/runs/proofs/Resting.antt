@@ -14,11 +14,13 @@ use Rattle.rules.specs.Texts.{text, text_verdict}
 use Rattle.rules.proofs.Lawful.{Apart as Distinct}
 use Rattle.reader.specs.Views.{View}
 use Rattle.reader.specs.Rests.{failed}
-use Rattle.runs.specs.Resting.{Amounts, Run, left_at, Resting, meaning_of}
+use Rattle.runs.specs.Piles.{pile_over, of_items, has_shift, meaning_of}
+use Rattle.runs.specs.Resting.{Amounts, Run, left_at, Resting}
 use Rattle.runs.proofs.Covered.{reached_run}
 use Rattle.runs.proofs.Splits.{AtRest, at_rest, core_rest, offset_at, rest_within, rest_ahead, rest_cut, rest_column, same_core}
 use Rattle.runs.proofs.Pairs.{Stands, TellsApart, Both, replies_agree, meanings_apart}
 use Rattle.runs.proofs.Piles.{pile_apart, calls_agree}
+use Rattle.runs.proofs.Bare.{texts_of}
 
 -- in text with nothing ahead and nothing cut a reading is finished
 none_done : (os : List Opening) (s : Config) → call os s (record { behind = []; ahead = []; cut = []; state = Template; pending = Nothing; ended = false }) ≡ Stops Done
@@ -84,5 +86,11 @@ resting_runs os s ends apart r q h k small other_small b =
     let z : Both os s ends apart t u small other_small d v w = both_rest os s ends apart t u small other_small v w x y f g b.same in (
       d,
       λ cs l. replies_agree os s ends apart t u small other_small d cs l v w z,
-      λ ls cs xs ys p q. calls_agree _ d cs _ _ xs ys (pile_apart ls d (meaning_of os s t v) (meaning_of os s u w) (meanings_apart os s ends apart t u small other_small d v w z)) p q,
+      λ ls cs xs ys p q.
+          let m = meaning_of os s t v in
+          let n = meaning_of os s u w in
+          let a = texts_of os s t v ls cs xs p in
+          let b = texts_of os s u w ls cs ys q in
+          let k = pile_apart ls d m n (meanings_apart os s ends apart t u small other_small d v w z) in
+          (a.0, b.0, a.1, b.1, calls_agree (has_shift ls) d cs (pile_over of_items ls m) (pile_over of_items ls n) a.0 b.0 k a.1.1 b.1.1),
     )

@@ -1,5 +1,6 @@
 pub mod Calls
 pub mod Whole
 pub mod Named
+pub mod Piles
 pub mod Resting
 pub mod Runs

@@ -1,7 +1,6 @@
 -- No earlier text reaches past a resting point.
-use Rattle.std.specs.Prelude.{◌≡◌, ℕ, ◌+◌, ◌-◌, ◌<◌, Bool, true, false, List, [], ◌∷◌, map, take, drop, Some, None, Option, Ok, Err, Result}
+use Rattle.std.specs.Prelude.{◌≡◌, ℕ, ◌+◌, ◌<◌, Bool, true, false, List, [], ◌∷◌, drop, Some, None, Option, Ok, Err, Result}
 use Rattle.finder.specs.Finding.{Opening}
-use Rattle.stream.specs.Told.{Ending, Next, Look}
 use Rattle.places.specs.declared.Place.{Place}
 use Rattle.places.specs.declared.Span.{Span}
 use Rattle.places.specs.Places.{line_cap, offset_cap}
@@ -9,89 +8,17 @@ use Rattle.pieces.specs.declared.piece.Piece.{Piece}
 use Rattle.pieces.specs.declared.fault.ReadFault.{ReadFault}
 use Rattle.rules.specs.declared.LexerState.{LexerState}
 use Rattle.rules.specs.Config.{Config}
-use Rattle.reader.specs.Views.{View, items_of, ending_of, unread}
-use Rattle.layers.specs.Layers.{drop_gaps, piece_gap, piece_line, fault_line, shift_piece, shift_fault, shifted_items, shifted_ending}
+use Rattle.reader.specs.Views.{View, unread}
+use Rattle.reader.specs.Rests.{rests}
+use Rattle.runs.specs.declared.pile.PileCall.{PileCall}
 use Rattle.runs.specs.declared.Reply.{Reply}
 use Rattle.runs.specs.declared.Reply.TheVariants.{Told, Rests}
-use Rattle.reader.specs.Rests.{rests}
 use Rattle.runs.specs.Calls.{Asked, replies, behind_calls, AllLawful}
-
--- piles of layers
-
--- a piece with the bytes that its text range names in its template
-pub record Item : Type 0 where
-  pub piece : Piece
-  pub text : List ℕ
-
--- a layer, by what it does
-pub data Layer : Type 0 where
-  Tokens : Layer
-  Shift : Place → Layer
-  LookAhead : Layer
-
--- what a stream of items means
-pub record Meaning : Type 0 where
-  pub items : List Item
-  pub ending : Ending ReadFault
-
--- the items of a layer know their pieces
-abbrev pub item_gap : Item → Bool
-item_gap x = piece_gap x.piece
-
-abbrev pub item_line : Item → ℕ
-item_line x = piece_line x.piece
-
-abbrev pub shift_item : Place → Option ℕ → Item → Item
-shift_item base first x = record { piece = shift_piece base first x.piece; text = x.text }
-
--- a layer over a stream: no gaps; the base added; or the same
-abbrev pub layer_over : Layer → Meaning → Meaning
-layer_over Tokens m = record { items = drop_gaps item_gap m.items; ending = m.ending }
-layer_over (Shift base) m = record {
-  items = shifted_items item_line fault_line shift_item base None m.items m.ending;
-  ending = shifted_ending item_line fault_line shift_fault base None m.items m.ending;
-}
-layer_over LookAhead m = m
-
--- a pile of layers over a stream, the topmost first
-unfoldable pub pile_over : List Layer → Meaning → Meaning
-pile_over [] m = m
-pile_over (l ∷ ls) m = layer_over l (pile_over ls m)
-
--- a Shift is in the pile
-unfoldable pub has_shift : List Layer → Bool
-has_shift [] = false
-has_shift (Tokens ∷ ls) = has_shift ls
-has_shift (Shift base ∷ ls) = true
-has_shift (LookAhead ∷ ls) = has_shift ls
-
--- what a reader of the template t means that stands at a view
-abbrev pub item_in : List ℕ → Piece → Item
-item_in t p = record { piece = p; text = take (p.text.end - p.text.start) (drop p.text.start t) }
-
-abbrev pub meaning_of : List Opening → Config → List ℕ → View → Meaning
-meaning_of os s t v = record { items = map (item_in t) (items_of os s v); ending = ending_of os s v }
-
--- what a call on a pile tells
-abbrev pub Answer : Type 0
-Answer = Result (Option Item) ReadFault
-
--- calls on a pile: next, or look
-pub data PileCall : Type 0 where
-  Takes : PileCall
-  Looks : PileCall
-
--- answers that the contracts of next and look allow, call by call, on a pile that means m
-unfoldable pub Allowed : Meaning → List PileCall → List Answer → Type 0
-Allowed m [] [] = Unit {0}
-Allowed m [] (r ∷ rs) = ⊥
-Allowed m (c ∷ cs) [] = ⊥
-Allowed m (Takes ∷ cs) (r ∷ rs) = (n : Meaning) × Next m.items m.ending r n.items n.ending × Allowed n cs rs
-Allowed m (Looks ∷ cs) (r ∷ rs) = Look m.items m.ending r × Allowed m cs rs
+use Rattle.runs.specs.Piles.{Layer, pile_over, has_shift, of_pieces, reads, AllTold, Item, item_in, meaning_of, Answer, WithTexts}
 
 -- agreeing
 
--- how much lower lines and offsets are on one side and on the other
+-- what is added to lines and offsets on the one side, and what on the other
 pub record Amounts : Type 0 where
   pub line : ℕ
   pub other_line : ℕ
@@ -138,7 +65,7 @@ AnswersAgree shifted d (Err f) (Ok (Some y)) = ⊥
 AnswersAgree shifted d (Err f) (Ok None) = ⊥
 AnswersAgree shifted d (Err f) (Err g) = FaultsAgree shifted d f g
 
--- one answer for the other, as many on both sides
+-- equally long, and agreeing one by one
 unfoldable pub AllAgree : {A : Type 0} → (A → A → Type 0) → List A → List A → Type 0
 AllAgree R [] [] = Unit {0}
 AllAgree R [] (y ∷ ys) = ⊥
@@ -176,10 +103,12 @@ pub record BothRest (os : List Opening) (s : Config) (r q : Run) : Type 0 where
   pub other_here : rests (left_at s q) ≡ true
   pub same : drop (left_at s r).place.offset r.template ≡ drop (left_at s q).place.offset q.template
 
--- from there on both tell the same: the readers, and equal piles of layers on them
+-- from there on both tell the same: the readers; and any two streams that mean the same pile of layers over them, whichever list of next and look is called on both
 abbrev pub Resting : List Opening → Config → Run → Run → Type 0
 Resting os s r q =
     BothRest os s r q → (d : Amounts)
     × ((cs : List Asked) → AllLawful os cs → AllAgree (RepliesAgree d r.template q.template) (replies s (left_at s r) cs) (replies s (left_at s q) cs))
-    × ((ls : List Layer) (cs : List PileCall) (xs ys : List Answer) → Allowed (pile_over ls (meaning_of os s r.template (left_at s r))) cs xs
-    → Allowed (pile_over ls (meaning_of os s q.template (left_at s q))) cs ys → AllAgree (AnswersAgree (has_shift ls) d) xs ys)
+    × ((ls : List Layer) (cs : List PileCall) (xs ys : List (Result (Option Piece) ReadFault))
+    → AllTold (pile_over of_pieces ls (reads os s (left_at s r))) cs xs → AllTold (pile_over of_pieces ls (reads os s (left_at s q))) cs ys
+    → (is : List Answer) × (js : List Answer) × WithTexts ls (meaning_of os s r.template (left_at s r)) cs xs is
+    × WithTexts ls (meaning_of os s q.template (left_at s q)) cs ys js × AllAgree (AnswersAgree (has_shift ls) d) is js)

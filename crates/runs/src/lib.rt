@@ -2,6 +2,8 @@
 
 #![tactic(auto)]
 
+pub mod pile;
+
 ghost use Rattle.std.specs.Prelude.{◌≡◌, ℕ};
 ghost use Rattle.rules.specs.Config.{config_of};
 ghost use Rattle.reader.specs.Views.{view_of, config};
@@ -10,6 +12,7 @@ ghost use Rattle.runs.specs.Runs.{state_of, Opens, Drives, Runs, Promised, Looks
 
 use finder::Finder;
 use pieces::{Piece, ReadFault};
+pub use pile::{Pile, PileCall, Turn, drive_pile};
 use reader::{OpenFault, Reader};
 use syntax::Settings;
 
