@@ -29,6 +29,7 @@ where
         ensures serves { (os : List Opening) → S.Stream.serves below os → ⟦<Self as Stream>⟧.serves result os }
         ensures left { ⟦<Self as Stream>⟧.left result ≡ S.Stream.left below }
         ensures shifts { Shifts S.Item.Placed.shifted base (first_line S.Item.Placed.line S.Fault.Placed.line (S.Stream.items below) (S.Stream.ending below)) (S.Stream.items below) (⟦<Self as Stream>⟧.items result) }
+        ensures made { result ≡ record { below = below; base = record { place = base; first = None } } }
     {
         Shift {
             below,

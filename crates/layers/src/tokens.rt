@@ -25,6 +25,7 @@ where
         ensures serves { (os : List Opening) → S.Stream.serves below os → ⟦<Self as Stream>⟧.serves result os }
         ensures left { ⟦<Self as Stream>⟧.left result ≡ S.Stream.left below }
         ensures drops { Drops S.Item.Gap.gap (S.Stream.items below) (⟦<Self as Stream>⟧.items result) }
+        ensures made { result ≡ record { below = below } }
     {
         Tokens { below }
     }

@@ -121,11 +121,13 @@ fn answer_all<S: Stream<Item = Piece, Fault = ReadFault>, F: Finder>(
     }
 }
 
-// Makes one call after another on a pile with a look-ahead on top, and writes each answer beside its call.
-// As its layers' constructors made it, and served by finders that are lawful for the reader below, the pile answers as the one of these layers over what that reader means.
-pub fn drive_pile<P: Pile, F: Finder>(pile: &mut LookAhead<P>, turns: &mut [Turn<F>])
+// Puts a look-ahead on a pile, makes one call after another on it, writes each answer beside its call, and gives the pile back.
+// A pile as its layers' constructors made it, served by finders that are lawful for the reader below, answers as its layers over what that reader means.
+pub fn drive_pile<P: Pile, F: Finder>(pile: P, turns: &mut [Turn<F>]) -> LookAhead<P>
     ensures asked { map unanswered turns.new ≡ map unanswered turns.old }
-    ensures answers { ⟦<LookAhead<P> as Pile>⟧.fresh pile.old → AllServe (Lawful (⟦<LookAhead<P> as Pile>⟧.lowest pile.old)) F.Finder.openings turns.old → Answered (pile_of (⟦<LookAhead<P> as Pile>⟧.layers pile.old) (⟦<LookAhead<P> as Pile>⟧.lowest pile.old)) turns.old turns.new }
+    ensures answers { P.fresh pile → AllServe (Lawful (P.lowest pile)) F.Finder.openings turns.old → Answered (pile_of (of_look_ahead ∷ P.layers pile) (P.lowest pile)) turns.old turns.new }
 {
-    answer_all(pile, turns);
+    let mut pile = LookAhead::new(pile);
+    answer_all(&mut pile, turns);
+    pile
 }
