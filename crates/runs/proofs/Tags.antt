@@ -1,5 +1,5 @@
 -- Nothing is misnamed inside tags.
-use Rattle.std.proofs.Common.{◌≡◌, ℕ, zero, suc, ◌+◌, ◌^◌, ◌≤◌, Bool, true, false, ◌&&◌, ◌||◌, eqb, ltb, List, [], ◌∷◌, length, get_or, take, drop, ℤ, Some, None, Ok, Err, Option, Result, sym, refl, ap, ◌∙◌, subst, inl, inr, arith}
+use Rattle.std.proofs.Common.{◌≡◌, ℕ, zero, suc, ◌+◌, ◌^◌, ◌<◌, ◌≤◌, Bool, true, false, ◌&&◌, ◌||◌, eqb, ltb, List, [], ◌∷◌, length, get_or, take, drop, ℤ, Some, None, Ok, Err, Option, Result, sym, refl, ap, ◌∙◌, subst, inl, inr, arith}
 use Rattle.std.proofs.lemmas.List.{drop-drop, length-drop, length-take}
 use Rattle.byte_search.specs.Search.{stands_at, first_in}
 use Rattle.finder.specs.Finding.{Opening}
@@ -9,7 +9,7 @@ use Rattle.spaces.specs.Spaces.{white_space}
 use Rattle.spaces.proofs.Lines.{line_told}
 use Rattle.spaces.proofs.Runs.{run_longest as white_longest}
 use Rattle.escape.specs.declared.fault.DecodeFault.{DecodeFault}
-use Rattle.pieces.specs.declared.kind.Kind.TheVariants.{BlockEnd, Ident, Int, Big}
+use Rattle.pieces.specs.declared.kind.Kind.TheVariants.{BlockEnd, Ident, Str, Int, Big}
 use Rattle.pieces.specs.declared.kind.Operator.{Operator}
 use Rattle.pieces.specs.declared.fault.FaultKind.TheVariants.{UnendedString, NoToken, TrailingUnderscore, BadInteger}
 use Rattle.rules.specs.declared.BlockSentinel.{BlockSentinel}
@@ -29,9 +29,9 @@ use Rattle.rules.specs.State.{told, plain, Verdict, fault}
 use Rattle.rules.specs.Strings.{quote_end, decoded, string_of, string}
 use Rattle.rules.specs.Tags.{operators, first_standing, dot_behind, literal, token_by, token, end_of, trim_by, closing, closes, close_by, is_zero, close, blanks, line_rest, statement_end, tag_end, tag_verdict}
 use Rattle.rules.specs.Texts.{Basic, basic_end}
-use Rattle.rules.proofs.Lengths.{blank_le, white_le}
+use Rattle.rules.proofs.Lengths.{blank_le, white_le, Below, quote_le}
 use Rattle.rules.proofs.Runs.{run_longest}
-use Rattle.runs.specs.Named.{IsEnd, IsStatementEnd}
+use Rattle.runs.specs.Named.{IsQuoted, IsEnd, IsStatementEnd}
 use Rattle.runs.proofs.Whites.{blanks_pass}
 use Rattle.runs.proofs.Gaps.{WaitsAt, Holds, tail_waits, left_has, white_named}
 use Rattle.runs.proofs.Reached.{left_le}
@@ -70,26 +70,6 @@ module _ (os : List Opening) (s : Config) (t : List ℕ) (i : ℕ) where
     | false ↦ scanned_holds (base_of xs) 2 m (drop 2 xs) (scan (base_of xs) dotted RadixInteger (drop 2 xs))
   ]
 
-  -- strings
-
-  decoded_holds : (n : ℕ) (m : LexerState) (r : Result ℕ DecodeFault) → H (decoded n m r)
-  decoded_holds n m (Ok v) = (tt, tt, tt)
-  decoded_holds n m (Err f) = tt
-
-  string_of_by : (m : LexerState) (xs : List ℕ) (o : Option ℕ) → first_in (92 ∷ []) xs ≡ o → H (string_of m xs)
-  string_of_by m xs None e = rw (e, string_of) (tt, tt, tt)
-  string_of_by m xs (Some k) e = rw (e, string_of) (decoded_holds (length xs) m _)
-
-  string_of_holds : (m : LexerState) (xs : List ℕ) → H (string_of m xs)
-  string_of_holds m xs = string_of_by m xs (first_in (92 ∷ []) xs) refl
-
-  string_holds : (q : ℕ) (m : LexerState) (xs : List ℕ) → H (string q m xs)
-  unfolding string
-  string_holds q m xs = elim (quote_end q false xs) as (λ r. H (elim r [ None ↦ fault UnendedString (suc (length xs)) | Some n ↦ string_of m (take n xs) ])) [
-    | None ↦ tt
-    | Some n ↦ string_of_holds m (take n xs)
-  ]
-
   -- the ends of tags
 
   trim_waits : (g : Whitespace) (j : ℕ) → WaitsAt os s (take (left_len s t) t) j (trim_by g)
@@ -116,6 +96,36 @@ module _ (os : List Opening) (s : Config) (t : List ℕ) (i : ℕ) where
     behind_them : (n : ℕ) → drop n (x ∷ xs) ≡ drop (i + n) left
     behind_them n = ap (drop n) e ∙ drop-drop n i left
 
+    -- strings
+
+    quoted_holds : (n : ℕ) → (eqb x 34 || eqb x 39) ≡ true → quote_end x false xs ≡ Some n → IsQuoted n left i (i + (length (take n xs) + 2))
+    quoted_holds n q f =
+        let b : n < length xs = subst (Below xs) f (quote_le x false xs) in
+        let l = length-take n xs in
+        let g : quote_end x false (drop (i + 1) left) ≡ Some n = subst (λ l. quote_end x false l ≡ Some n) (behind_them 1) f in
+        (subst (λ l. (eqb (get_or l 0 0) 34 || eqb (get_or l 0 0) 39) ≡ true) e q, subst (λ l. quote_end (get_or l 0 0) false (drop (i + 1) left) ≡ Some n) e g, omega arith)
+
+    module _ (m : LexerState) (n : ℕ) (quoted : IsQuoted n left i (i + (length (take n xs) + 2))) where
+      decoded_holds : (k : ℕ) → first_in (92 ∷ []) (take n xs) ≡ Some k → (r : Result ℕ DecodeFault) → H (decoded (length (take n xs)) m r)
+      decoded_holds k f (Ok v) = (tt, (n, quoted, k, subst (λ l. first_in (92 ∷ []) (take n l) ≡ Some k) (behind_them 1) f), tt)
+      decoded_holds k f (Err g) = tt
+
+      string_of_by : (o : Option ℕ) → first_in (92 ∷ []) (take n xs) ≡ o → (r : Result ℕ DecodeFault)
+          → H (elim o [ None ↦ told Str (length (take n xs) + 2) 1 (length (take n xs) + 1) None m Nothing | Some k ↦ decoded (length (take n xs)) m r ])
+      string_of_by None f r = (tt, (n, quoted, subst (λ l. first_in (92 ∷ []) (take n l) ≡ None) (behind_them 1) f), tt)
+      string_of_by (Some k) f r = decoded_holds k f r
+
+      string_of_holds : H (string_of m (take n xs))
+      string_of_holds = string_of_by (first_in (92 ∷ []) (take n xs)) refl _
+
+    string_by : (m : LexerState) → (eqb x 34 || eqb x 39) ≡ true → (r : Option ℕ) → quote_end x false xs ≡ r → H (elim r [ None ↦ fault UnendedString (suc (length xs)) | Some n ↦ string_of m (take n xs) ])
+    string_by m q None f = tt
+    string_by m q (Some n) f = string_of_holds m n (quoted_holds n q f)
+
+    string_holds : (m : LexerState) → (eqb x 34 || eqb x 39) ≡ true → H (string x m xs)
+    unfolding string
+    string_holds m q = string_by m q (quote_end x false xs) refl
+
     -- tokens
 
     abbrev name : LexerState → Bool → Verdict
@@ -127,15 +137,20 @@ module _ (os : List Opening) (s : Config) (t : List ℕ) (i : ℕ) where
         (tt, (n, subst (λ l. leads_name (get_or l 0 0) ≡ true) e f, subst (λ l. LongestRun is_name_part l n) e (run_longest is_name_part (x ∷ xs)), refl), tt)
     name_holds m false f = tt
 
+    other_holds : (behind : List ℕ) (m : LexerState) → H (elim (is_digit x) [ true ↦ number (dot_behind behind) m (x ∷ xs) | false ↦ name m (leads_name x) ])
+    other_holds behind m = elim (is_digit x) as (λ b. H (elim b [ true ↦ number (dot_behind behind) m (x ∷ xs) | false ↦ name m (leads_name x) ])) [
+      | true ↦ number_holds (dot_behind behind) m (x ∷ xs)
+      | false ↦ name_holds m (leads_name x) refl
+    ]
+
+    literal_by : (behind : List ℕ) (m : LexerState) (b : Bool) → (eqb x 34 || eqb x 39) ≡ b
+        → H (elim b [ true ↦ string x m xs | false ↦ elim (is_digit x) [ true ↦ number (dot_behind behind) m (x ∷ xs) | false ↦ name m (leads_name x) ] ])
+    literal_by behind m true q = string_holds m q
+    literal_by behind m false q = other_holds behind m
+
     literal_holds : (behind : List ℕ) (m : LexerState) → H (literal behind m x xs)
     unfolding literal
-    literal_holds behind m = elim (eqb x 34 || eqb x 39) as (λ b. H (elim b [ true ↦ string x m xs | false ↦ elim (is_digit x) [ true ↦ number (dot_behind behind) m (x ∷ xs) | false ↦ name m (leads_name x) ] ])) [
-      | true ↦ string_holds x m xs
-      | false ↦ elim (is_digit x) as (λ b. H (elim b [ true ↦ number (dot_behind behind) m (x ∷ xs) | false ↦ name m (leads_name x) ])) [
-        | true ↦ number_holds (dot_behind behind) m (x ∷ xs)
-        | false ↦ name_holds m (leads_name x) refl
-      ]
-    ]
+    literal_holds behind m = literal_by behind m (eqb x 34 || eqb x 39) refl
 
     token_by_holds : (behind : List ℕ) (k : BlockSentinel) (b : ℤ) (o : Option Operator) → first_standing operators (x ∷ xs) ≡ o → H (token_by o behind k b x xs)
     token_by_holds behind k b None f = literal_holds behind (Inside k b)

@@ -1,7 +1,7 @@
--- Nothing misnamed: no opening lies in plain text, the longest opening names what it begins, and every piece but strings and numbers has its form.
-use Rattle.std.specs.Prelude.{◌≡◌, ℕ, ◌+◌, ◌-◌, ◌<◌, ◌≤◌, ◌⊎◌, true, List, length, take, drop, None, Some, slice_index}
+-- Nothing misnamed: no opening lies in plain text, the longest opening names what it begins, and every piece but numbers has its form.
+use Rattle.std.specs.Prelude.{◌≡◌, ℕ, ◌+◌, ◌-◌, ◌<◌, ◌≤◌, ◌⊎◌, true, false, ◌||◌, List, [], ◌∷◌, length, take, drop, None, Some, ◌==◌, slice_index}
 use Rattle.std.specs.List.{ContainsAt as Has}
-use Rattle.byte_search.specs.Search.{First, Stands}
+use Rattle.byte_search.specs.Search.{first_in, First, Stands}
 use Rattle.finder.specs.declared.StartMarker.{StartMarker}
 use Rattle.finder.specs.declared.StartMarker.TheVariants.{Variable as VariableMarker, Block as BlockMarker, Comment as CommentMarker, LineStatement as StatementMarker, LineComment as LineCommentMarker}
 use Rattle.finder.specs.Finding.{Opening, QualifiesAt}
@@ -15,6 +15,7 @@ use Rattle.rules.specs.Bytes.{sign_len, in_line, leads_name, is_name_part, Longe
 use Rattle.rules.specs.Config.{Config, white, inline_white}
 use Rattle.rules.specs.Reading.{left_len}
 use Rattle.rules.specs.declared.EndRaw.{EndRaw}
+use Rattle.rules.specs.Strings.{quote_end}
 use Rattle.rules.specs.Tags.{operators, first_standing}
 use Rattle.rules.specs.Texts.{Basic, basic_end, basic_tag, raw_name, opening_sign}
 use Rattle.raws.specs.Closers.{TagSpelt, CloserSpelt, Closes, FirstCloser}
@@ -59,6 +60,20 @@ IsIdent u i j = (n : ℕ) × (leads_name (slice_index (drop i u) 0) ≡ true) ×
 abbrev pub IsOperator : Operator → List ℕ → ℕ → ℕ → Type 0
 IsOperator o u i j = (first_standing operators (drop i u) ≡ Some o) × (j ≡ i + length (operator_text o))
 
+-- a text of n bytes between quotes: a quote, and the next like it that is not escaped
+abbrev pub IsQuoted : ℕ → List ℕ → ℕ → ℕ → Type 0
+IsQuoted n u i j =
+    let q : ℕ = slice_index (drop i u) 0 in
+    ((q == 34 || q == 39) ≡ true) × (quote_end q false (drop (i + 1) u) ≡ Some n) × (j ≡ i + (n + 2))
+
+-- a string without a backslash
+abbrev pub IsStr : List ℕ → ℕ → ℕ → Type 0
+IsStr u i j = (n : ℕ) × IsQuoted n u i j × (first_in (92 ∷ []) (take n (drop (i + 1) u)) ≡ None)
+
+-- a string with one
+abbrev pub IsString : List ℕ → ℕ → ℕ → Type 0
+IsString u i j = (n : ℕ) × IsQuoted n u i j × (k : ℕ) × (first_in (92 ∷ []) (take n (drop (i + 1) u)) ≡ Some k)
+
 -- a comment: an opening with its sign, a body, and the comment end, which stands nowhere before
 abbrev pub IsComment : List Opening → Config → List ℕ → ℕ → ℕ → Type 0
 IsComment os s u i j =
@@ -86,7 +101,7 @@ abbrev pub IsRawClose : List Opening → Config → List ℕ → ℕ → ℕ →
 IsRawClose os s u i j = (h : ℕ) × IsRawText os s u h i × (r : EndRaw) × Closes s u i r × CloserSpelt s (drop i u) (Some r) × (j ≡ i + r.len)
 
 -- the piece of this kind from i to j is what its kind says; u is what the cut leaves of the template t.
--- Of strings and numbers their rules say it; every other piece has one of these forms.
+-- Of numbers their rules say it; every other piece has one of these forms.
 abbrev pub IsNamed : List Opening → Config → List ℕ → ℕ → ℕ → Kind → Type 0
 IsNamed os s t i j Text = NoOpening os (take (left_len s t) t) i j
 IsNamed os s t i j White = AllPass (white s) (take (j - i) (drop i t))
@@ -102,8 +117,8 @@ IsNamed os s t i j BlockStart = IsBlockStart os s (take (left_len s t) t) i j
 IsNamed os s t i j BlockEnd = IsEnd s.block_end (take (left_len s t) t) i j ⊎ IsStatementEnd s (take (left_len s t) t) i j
 IsNamed os s t i j Ident = IsIdent (take (left_len s t) t) i j
 IsNamed os s t i j (Operates o) = IsOperator o (take (left_len s t) t) i j
-IsNamed os s t i j Str = Unit {0}
-IsNamed os s t i j String = Unit {0}
+IsNamed os s t i j Str = IsStr (take (left_len s t) t) i j
+IsNamed os s t i j String = IsString (take (left_len s t) t) i j
 IsNamed os s t i j Int = Unit {0}
 IsNamed os s t i j Big = Unit {0}
 IsNamed os s t i j Float = Unit {0}
