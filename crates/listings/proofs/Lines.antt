@@ -1,5 +1,5 @@
 -- The lines of a listing, one at a time.
-use Rattle.std.proofs.Common.{◌≡◌, ℕ, List, [], ◌∷◌, ◌++◌, Some, None, Ok, Option, Result, sym, refl, ap, ◌∙◌, append_assoc, subst, OnOk}
+use Rattle.std.proofs.Common.{◌≡◌, ℕ, List, [], ◌∷◌, ◌++◌, Some, Ok, Err, Option, Result, sym, refl, ap, ◌∙◌, append_assoc, subst, OnOk}
 use Rattle.std.specs.declared.alloc.AllocError.{AllocError}
 use Rattle.stream.specs.Told.{Ending, Next}
 use Rattle.places.specs.declared.Place.{Place}
@@ -10,10 +10,11 @@ use Rattle.syntax.specs.Openings.{openings_of}
 use Rattle.rules.specs.Config.{default_config}
 use Rattle.rules.specs.Texts.{Same}
 use Rattle.reader.specs.declared.reader.Reader.{Reader}
+use Rattle.reader.specs.Opens.{open_told}
 use Rattle.reader.specs.Views.{config, view_of, items_of, ending_of, Lawful}
 use Rattle.listings.specs.declared.row.Row.{Row}
 use Rattle.listings.specs.Rows.{row_text, joined}
-use Rattle.listings.specs.Listing.{refusal, refusal_line, ending_line, lines, opened, pieces_in, ending_in, listing}
+use Rattle.listings.specs.Listing.{max_len, refusal_line, ending_line, lines, opened, pieces_in, ending_in, listing}
 
 lines_row : (p : Place) (r : Row) (rs : List Row) (e : Ending ReadFault) → lines p (r ∷ rs) e ≡ (row_text r ++ (10 ∷ [])) ++ lines r.span.end rs e
 unfolding lines
@@ -47,7 +48,7 @@ pub default_lawful : (r : Reader) → openings_of r.settings ≡ default_opening
 default_lawful r e = subst (λ os. Same default_openings os) (sym e) (λ o. (λ h. h, λ h. h))
 
 -- the lines of a reader at the start of a template under the default settings are the listing of that template
-module _ (t : List ℕ) (r : Reader) (passes : refusal t ≡ None) (e : openings_of r.settings ≡ default_openings) (f : config r ≡ default_config) (g : view_of r ≡ opened t) where
+module _ (t : List ℕ) (r : Reader) (passes : Ok tt ≡ open_told max_len t) (e : openings_of r.settings ≡ default_openings) (f : config r ≡ default_config) (g : view_of r ≡ opened t) where
   rows_same : joined (items_of (openings_of r.settings) (config r) (view_of r)) ≡ joined (pieces_in t)
   rows_same = ap (λ os. joined (items_of os (config r) (view_of r))) e ∙ ap (λ s. joined (items_of default_openings s (view_of r))) f ∙ ap (λ v. joined (items_of default_openings default_config v)) g
 
@@ -59,5 +60,5 @@ module _ (t : List ℕ) (r : Reader) (passes : refusal t ≡ None) (e : openings
   listed done new out rows end a b h =
       subst (λ l. OnOk done (new ≡ out ++ l))
       (ap (λ x. lines first_place x end) (a ∙ rows_same) ∙ ap (λ x. lines first_place (joined (pieces_in t)) x) (b ∙ ending_same)
-      ∙ ap (λ o. elim o [ Some f ↦ refusal_line f | None ↦ lines first_place (joined (pieces_in t)) (ending_in t) ]) (sym passes))
+      ∙ ap (λ o. elim o [ Err r ↦ refusal_line r | Ok u ↦ lines first_place (joined (pieces_in t)) (ending_in t) ]) passes)
       h

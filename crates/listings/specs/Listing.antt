@@ -1,19 +1,17 @@
 -- The listing of a template under the default settings.
-use Rattle.std.specs.Prelude.{◌≡◌, ℕ, true, false, List, [], ◌∷◌, ◌++◌, length, Some, None, Option, Ok, Err, Result, codes, ◌==◌, nat_le}
+use Rattle.std.specs.Prelude.{ℕ, List, [], ◌∷◌, ◌++◌, Some, None, Option, Ok, Err, codes}
 use Rattle.std.specs.Fmt.{decimal}
 use Rattle.stream.specs.Told.{Ending}
 use Rattle.places.specs.declared.Place.{Place}
 use Rattle.places.specs.Places.{first_place, place_text}
-use Rattle.utf8.specs.Utf8.{prefix}
 use Rattle.pieces.specs.declared.fault.ReadFault.{ReadFault}
 use Rattle.pieces.specs.declared.piece.Piece.{Piece}
 use Rattle.pieces.specs.Faults.{number_of as fault_number}
 use Rattle.finders.specs.Defaults.{default_openings}
 use Rattle.rules.specs.declared.LexerState.TheVariants.{Template}
 use Rattle.rules.specs.Config.{default_config}
-use Rattle.reader.specs.declared.fault.OpenFault.{OpenFault}
-use Rattle.reader.specs.declared.fault.OpenFault.TheVariants.{TooLong, NotUtf8}
-use Rattle.reader.specs.Faults.{number_of, byte_of}
+use Rattle.reader.specs.Faults.{Told}
+use Rattle.reader.specs.Opens.{open_told}
 use Rattle.reader.specs.Views.{View, unread, items_of, ending_of}
 use Rattle.listings.specs.declared.row.Row.{Row}
 use Rattle.listings.specs.Rows.{joined, row_text}
@@ -22,26 +20,14 @@ use Rattle.listings.specs.Rows.{joined, row_text}
 abbrev pub max_len : ℕ
 max_len = 65536
 
--- why a template is not listed: it has too many bytes, or else it is not UTF-8 behind its well-formed prefix
-abbrev pub refusal : List ℕ → Option OpenFault
-refusal t = elim (nat_le (length t) max_len) [
-  | true ↦ elim (prefix t == length t) [ true ↦ None | false ↦ Some (NotUtf8 (record { byte = prefix t })) ]
-  | false ↦ Some TooLong
-]
-
--- what opening answers: that refusal, exactly if there is one
-abbrev pub Refuses : List ℕ → Result Unit OpenFault → Type 0
-Refuses t (Ok u) = refusal t ≡ None
-Refuses t (Err f) = refusal t ≡ Some f
-
 -- a space and a byte's offset, where there is one
 abbrev pub byte_text : Option ℕ → List ℕ
 byte_text None = []
 byte_text (Some n) = codes " " ++ decimal n
 
 -- the one line of a template that is not opened
-abbrev pub refusal_line : OpenFault → List ℕ
-refusal_line f = codes "refused " ++ decimal (number_of f) ++ byte_text (byte_of f) ++ codes "\n"
+abbrev pub refusal_line : Told → List ℕ
+refusal_line r = codes "refused " ++ decimal r.number ++ byte_text r.byte ++ codes "\n"
 
 -- the last line of a reading that is finished: that has no place of its own, so the place that was reached stands there twice
 abbrev pub end_line : Place → List ℕ
@@ -74,4 +60,4 @@ ending_in t = ending_of default_openings default_config (opened t)
 
 -- the listing of a template
 abbrev pub listing : List ℕ → List ℕ
-listing t = elim (refusal t) [ Some f ↦ refusal_line f | None ↦ lines first_place (joined (pieces_in t)) (ending_in t) ]
+listing t = elim (open_told max_len t) [ Err r ↦ refusal_line r | Ok u ↦ lines first_place (joined (pieces_in t)) (ending_in t) ]

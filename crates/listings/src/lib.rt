@@ -11,9 +11,10 @@ ghost use Rattle.syntax.specs.Openings.{openings_of};
 ghost use Rattle.places.specs.Places.{first_place};
 ghost use Rattle.rules.specs.Config.{config_of, default_config};
 ghost use Rattle.rules.specs.declared.LexerState.TheVariants.{Template};
-ghost use Rattle.reader.specs.Views.{view_of, config, unread};
+ghost use Rattle.reader.specs.Faults.{told, tells};
+ghost use Rattle.reader.specs.Opens.{open_told, Opened};
 ghost use Rattle.listings.specs.Examples.{ExamplesHold};
-ghost use Rattle.listings.specs.Listing.{lines, end_line, fault_line, refusal_line, pieces_in, listing, Refuses};
+ghost use Rattle.listings.specs.Listing.{max_len, lines, end_line, fault_line, refusal_line, pieces_in, listing};
 ghost use Rattle.listings.specs.Rows.{joined, Joins};
 
 use finders::DefaultFinder;
@@ -42,20 +43,19 @@ fn default_settings() -> Settings
 }
 
 // Opens a template that is to be listed: refused where it has too many bytes, then where it is not UTF-8.
-fn open<'t>(reader: &mut Reader<'t>, template: &'t [u8]) -> Result<(), OpenFault>
-    ensures refuses { Refuses template.now result }
-    ensures settings { reader.new.settings ≡ reader.old.settings }
-    ensures view { OnOk result (view_of reader.new ≡ unread (config reader.old) Template template.now) }
+fn open<'t>(settings: &Settings, template: &'t [u8]) -> Result<Reader<'t>, OpenFault>
+    ensures told { tells result ≡ open_told max_len template.now }
+    ensures opened { IfOk result (λ r. Opened settings.now Template template.now r) }
 {
     if template.len() > MAX_LEN {
         return Err(OpenFault::TooLong);
     }
-    reader.open_template(template)
+    Reader::open_template(settings, template)
 }
 
 // Adds the line of a template that is not opened.
 fn add_refusal(out: &mut String, fault: OpenFault) -> Result<(), AllocError>
-    ensures { OnOk result (string_bytes out.new ≡ string_bytes out.old ++ refusal_line fault) }
+    ensures { OnOk result (string_bytes out.new ≡ string_bytes out.old ++ refusal_line (told fault)) }
 {
     let number = fault.number();
     match fault.byte() {
@@ -104,9 +104,9 @@ fn add_lines<S: Stream<Item = Row, Fault = ReadFault> + Drop>(
 fn add_listing(out: &mut String, template: &[u8]) -> Result<(), AllocError>
     ensures { OnOk result (string_bytes out.new ≡ string_bytes out.old ++ listing template.now) }
 {
-    let mut reader = Reader::new(&default_settings());
-    match open(&mut reader, template) {
-        Ok(()) => add_lines(out, Rows::new(reader)),
+    let settings = default_settings();
+    match open(&settings, template) {
+        Ok(reader) => add_lines(out, Rows::new(reader)),
         Err(fault) => add_refusal(out, fault),
     }
 }

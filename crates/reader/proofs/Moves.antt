@@ -5,6 +5,7 @@ use Rattle.places.specs.Places.{beyond, capped, offset_cap}
 use Rattle.places.proofs.Advances.{capped_beyond}
 use Rattle.pieces.specs.declared.piece.Piece.{Piece}
 use Rattle.pieces.specs.declared.piece.TextRange.{TextRange}
+use Rattle.reader.specs.Limits.{max_len}
 use Rattle.rules.specs.declared.LexerState.{LexerState}
 use Rattle.rules.specs.declared.LexerState.TheVariants.{Template, Inside, Over}
 use Rattle.rules.specs.At.{place_at}
@@ -22,7 +23,7 @@ advanced t i k ys zs p q h a b e =
     ∙ ap (λ l. capped (beyond l (place_at t i))) (b ∙ ap (take k) a)
     ∙ ap capped (place_on t i k)
 
-range_told : (t : List ℕ) (i a b : ℕ) → i ≤ length t → a ≤ b → i + b ≤ 16777216
+range_told : (t : List ℕ) (i a b : ℕ) → i ≤ length t → a ≤ b → i + b ≤ max_len
     → ◌≡◌ {A = TextRange} (record { start = i + a; end = i + b }) (record { start = min ((place_at t i).offset + a) offset_cap; end = min ((place_at t i).offset + b) offset_cap })
 range_told t i a b h l k =
     let o = place_offset t i h in
@@ -31,7 +32,7 @@ range_told t i a b h l k =
     ap (λ n. record { start = n; end = i + b }) x ∙ ap (λ n. record { start = min ((place_at t i).offset + a) offset_cap; end = n }) y
 
 -- a piece from one place to another is told as the rules place it
-pub told_at : (t : List ℕ) (i j : ℕ) (x : Part) (p q : Place) (r : TextRange) → i ≤ length t → x.from ≤ x.to → i + x.to ≤ 16777216 → beyond x.bytes (place_at t i) ≡ place_at t j
+pub told_at : (t : List ℕ) (i j : ℕ) (x : Part) (p q : Place) (r : TextRange) → i ≤ length t → x.from ≤ x.to → i + x.to ≤ max_len → beyond x.bytes (place_at t i) ≡ place_at t j
     → p ≡ capped (place_at t i) → q ≡ capped (place_at t j) → r ≡ record { start = i + x.from; end = i + x.to }
     → ◌≡◌ {A = Piece} (record { kind = x.kind; span = record { start = p; end = q }; text = r; value = x.value }) (placed (place_at t i) x)
 told_at t i j x p q r h l k b e f g =

@@ -1,5 +1,5 @@
 -- A reader of which nothing is read.
-use Rattle.std.proofs.Common.{◌≡◌, ℕ, true, false, List, [], length, pos, None, sym, refl, ap}
+use Rattle.std.proofs.Common.{◌≡◌, ℕ, false, List, pos, None, sym, ap}
 use Rattle.places.specs.Places.{beyond, first_place, capped}
 use Rattle.places.proofs.Advances.{beyond_none}
 use Rattle.rules.specs.declared.LexerState.{LexerState}
@@ -7,7 +7,7 @@ use Rattle.rules.specs.declared.Pending.TheVariants.{Nothing}
 use Rattle.rules.specs.At.{core_at, place_at}
 use Rattle.rules.specs.Bytes.{pushes}
 use Rattle.rules.specs.Config.{Config}
-use Rattle.rules.specs.Reading.{chop, left_len}
+use Rattle.rules.specs.Reading.{left_len}
 use Rattle.reader.specs.Views.{View, unread}
 
 -- it stands at the first place
@@ -18,8 +18,3 @@ start_here t = ap capped (sym (beyond_none first_place))
 pub start_view : (s : Config) (m : LexerState) (t : List ℕ) (n : ℕ) → n ≡ left_len s t → ◌≡◌ {A = View} (record { core = core_at t n 0 m Nothing false; place = place_at t 0; balance = pos 0; told = None }) (unread s m t)
 unfolding beyond pushes
 start_view s m t n e = ap (λ k. record { core = core_at t k 0 m Nothing false; place = place_at t 0; balance = pos 0; told = None }) e
-
--- of no bytes none are left
-pub none_left : (s : Config) → 0 ≡ left_len s []
-unfolding chop
-none_left s = elim s.keep_trailing as (λ t. 0 ≡ elim t as (λ _. ℕ) [ true ↦ length {A = ℕ} [] | false ↦ length (chop 13 (chop 10 [])) ]) [ true ↦ refl | false ↦ refl ]

@@ -1,23 +1,24 @@
 -- What opening answers.
-use Rattle.std.specs.Prelude.{◌≡◌, ℕ, ◌-◌, ◌<◌, ◌≤◌, Bool, true, false, ◌⊎◌, List, [], ◌∷◌, ◌++◌, length, Ok, Err, Result, slice_index}
+use Rattle.std.specs.Prelude.{◌≡◌, ℕ, ◌-◌, ◌<◌, Bool, true, false, ◌⊎◌, List, [], ◌∷◌, ◌++◌, length, Some, None, Ok, Err, Result, ◌==◌, nat_le, slice_index}
 use Rattle.utf8.specs.Utf8.{prefix}
+use Rattle.syntax.specs.declared.settings.Settings.{Settings}
 use Rattle.rules.specs.declared.LexerState.{LexerState}
 use Rattle.rules.specs.Config.{config_of}
-use Rattle.reader.specs.declared.fault.OpenFault.{OpenFault}
-use Rattle.reader.specs.declared.fault.OpenFault.TheVariants.{TooLong, NotUtf8}
 use Rattle.reader.specs.declared.reader.Reader.{Reader}
+use Rattle.reader.specs.Faults.{Told}
 use Rattle.reader.specs.Views.{view_of, unread}
 
--- the greatest number of bytes that a template may have
-abbrev pub max_len : ℕ
-max_len = 16777216
+-- what opening tells of a template where so many bytes are allowed: with 5 that it has more, then with 6 and the length of its well-formed prefix that it is not UTF-8
+abbrev pub open_told : ℕ → List ℕ → Result Unit Told
+open_told most t = elim (nat_le (length t) most) [
+  | true ↦ elim (prefix t == length t) [
+    | true ↦ Ok tt
+    | false ↦ Err (record { number = 6; byte = Some (prefix t) })
+  ]
+  | false ↦ Err (record { number = 5; byte = None })
+]
 
--- why a template is refused: it is too long; or it is not, and is not UTF-8 behind its well-formed prefix
-abbrev pub Refuses : List ℕ → OpenFault → Type 0
-Refuses t TooLong = max_len < length t
-Refuses t (NotUtf8 f) = (length t ≤ max_len) × (prefix t < length t) × (f.byte ≡ prefix t)
-
--- the bytes end in b
+-- xs ends in the byte b
 abbrev pub EndsIn : ℕ → List ℕ → Type 0
 EndsIn b xs = (0 < length xs) × (slice_index xs (length xs - 1) ≡ b)
 
@@ -30,12 +31,9 @@ abbrev pub Leaves : Bool → List ℕ → List ℕ → Type 0
 Leaves true t u = u ≡ t
 Leaves false t u = (v : List ℕ) × Without 10 t v × Without 13 v u
 
--- a template passes, or is refused
-abbrev pub Checks : List ℕ → Result Unit OpenFault → Type 0
-Checks t (Ok u) = (length t ≤ max_len) × (prefix t ≡ length t)
-Checks t (Err f) = Refuses t f
-
--- a reader p becomes a reader q of the template under the same settings, of which nothing is read; or it is refused, and the reader is as it was
-abbrev pub Opens : Reader → LexerState → List ℕ → Result Unit OpenFault → Reader → Type 0
-Opens p m t (Ok u) q = (length t ≤ max_len) × (prefix t ≡ length t) × (q.settings ≡ p.settings) × (q.reading.template.now ≡ t) × (view_of q ≡ unread (config_of p.settings) m t) × Leaves (config_of p.settings).keep_trailing t (view_of q).core.ahead
-Opens p m t (Err f) q = Refuses t f × (q ≡ p)
+-- a reader of the template t under the settings st that starts in the state m: nothing is read, and what the cut leaves lies ahead
+pub record Opened (st : Settings) (m : LexerState) (t : List ℕ) (r : Reader) : Type 0 where
+  pub settings : r.settings ≡ st
+  pub template : r.reading.template.now ≡ t
+  pub view : view_of r ≡ unread (config_of st) m t
+  pub leaves : Leaves (config_of st).keep_trailing t (view_of r).core.ahead

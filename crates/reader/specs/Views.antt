@@ -107,7 +107,7 @@ items_of os s v = elim v.told [ Some e ↦ [] | None ↦ pieces v.place (meaning
 abbrev pub ending_of : List Opening → Config → View → Ending ReadFault
 ending_of os s v = elim v.told [ Some e ↦ e | None ↦ ending v.place (meaning os s v.core) ]
 
--- at most so many pieces are still to come
+-- at most so many calls tell something new: the pieces still to come, and the ending
 abbrev pub left_of : View → ℕ
 left_of v = elim v.told [ Some e ↦ 0 | None ↦ suc (measure v.core) ]
 

@@ -5,7 +5,7 @@ ghost use Rattle.rules.specs.Reading.{chop, left_len};
 
 use syntax::Settings;
 
-// The bytes without one final byte `b`. By a pattern: of the library's `strip_suffix`, which `unescape` takes a CR off by, the check does not see the last byte.
+// The bytes without one final byte `b`. A pattern: the checker does not know which byte the library's `strip_suffix` took off.
 fn without_last(s: &[u8], b: u8) -> &[u8]
     ensures value { result.now ≡ chop b s.now }
     ensures within { length result.now ≤ length s.now }

@@ -1,6 +1,6 @@
 // Why a template is not opened.
 ghost use Rattle.std.specs.Prelude.{◌≡◌, Some};
-ghost use Rattle.reader.specs.Faults.{number_of, byte_of, fault_name, fault_text};
+ghost use Rattle.reader.specs.Faults.{told, fault_name, fault_text};
 ghost use Rattle.reader.specs.declared.fault.OpenFault.TheVariants.{NotUtf8 as illformed};
 
 use std::error::Error;
@@ -27,7 +27,7 @@ impl From<NotUtf8> for OpenFault {
 impl OpenFault {
     // The refusal's number: the rules of this project give each one (docs/RULES.md), whatever the enum's order.
     pub fn number(self) -> u32
-        ensures { result ≡ number_of self }
+        ensures { result ≡ (told self).number }
     {
         match self {
             OpenFault::TooLong => 5,
@@ -37,7 +37,7 @@ impl OpenFault {
 
     // The byte at which the template is refused, where it is one.
     pub fn byte(self) -> Option<usize>
-        ensures { result ≡ byte_of self }
+        ensures { result ≡ (told self).byte }
     {
         match self {
             OpenFault::TooLong => None,

@@ -3,12 +3,12 @@
 #![tactic(auto)]
 
 mod chop;
-pub mod closing;
-pub mod fault;
-pub mod opening;
+mod closing;
+mod fault;
+mod opening;
 mod parts;
-pub mod reader;
-pub mod reading;
+mod reader;
+mod reading;
 mod rest;
 mod verdicts;
 

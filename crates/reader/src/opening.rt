@@ -1,9 +1,9 @@
 // Opening.
-ghost use Rattle.std.specs.Prelude.{◌≡◌, []};
-ghost use Rattle.reader.specs.Opens.{Checks, Opens};
-ghost use Rattle.reader.specs.Views.{view_of, unread};
+ghost use Rattle.std.specs.Prelude.{◌≡◌, IfOk};
+ghost use Rattle.reader.specs.Faults.{tells};
+ghost use Rattle.reader.specs.Limits.{max_len};
+ghost use Rattle.reader.specs.Opens.{open_told, Opened};
 ghost use Rattle.rules.specs.declared.LexerState.TheVariants.{Template};
-ghost use Rattle.rules.specs.Config.{config_of};
 ghost use Rattle.rules.specs.Reading.{in_expression};
 ghost use Rattle.rules.specs.Shapes.{level};
 
@@ -19,7 +19,7 @@ const MAX_LEN: usize = 16_777_216;
 
 // Tests a template: refused where it has too many bytes, then where it is not UTF-8.
 fn check(template: &[u8]) -> Result<(), OpenFault>
-    ensures { Checks template.now result }
+    ensures { tells result ≡ open_told max_len template.now }
 {
     if template.len() > MAX_LEN {
         return Err(OpenFault::TooLong);
@@ -29,39 +29,40 @@ fn check(template: &[u8]) -> Result<(), OpenFault>
 }
 
 impl<'t> Reader<'t> {
-    // A reader under these settings, of an empty template.
-    pub fn new(settings: &Settings) -> Reader<'t>
-        ensures settings { result.settings ≡ settings.now }
-        ensures template { result.reading.template.now ≡ [] }
-        ensures view { view_of result ≡ unread (config_of settings.now) Template [] }
-    {
-        Reader {
-            settings: *settings,
-            reading: Reading::start(settings, LexerState::Template, b""),
-        }
-    }
-
-    // Goes to the start of a template, which starts in this state.
-    fn open(&mut self, state: LexerState, template: &'t [u8]) -> Result<(), OpenFault>
+    // A reader of a template, which starts in this state; or why there is none.
+    fn open(
+        settings: &Settings,
+        state: LexerState,
+        template: &'t [u8],
+    ) -> Result<Reader<'t>, OpenFault>
         requires { level state ≡ 0 }
-        ensures { Opens self.old state template.now result self.new }
+        ensures told { tells result ≡ open_told max_len template.now }
+        ensures opened { IfOk result (λ r. Opened settings.now state template.now r) }
     {
         check(template)?;
-        self.reading = Reading::start(&self.settings, state, template);
-        Ok(())
+        Ok(Reader {
+            settings: *settings,
+            reading: Reading::start(settings, state, template),
+        })
     }
 
-    // Opens a template: refused where it has too many bytes, then where it is not UTF-8. Nothing is copied, and nothing allocated.
-    pub fn open_template(&mut self, template: &'t [u8]) -> Result<(), OpenFault>
-        ensures { Opens self.old Template template.now result self.new }
+    // Opens a template under settings: a reader of it, unless it has too many bytes or is not UTF-8. Nothing is copied but the settings, and nothing allocated.
+    pub fn open_template(settings: &Settings, template: &'t [u8]) -> Result<Reader<'t>, OpenFault>
+        ensures told { tells result ≡ open_told max_len template.now }
+        ensures opened { IfOk result (λ r. Opened settings.now Template template.now r) }
     {
-        self.open(LexerState::Template, template)
+        Reader::open(settings, LexerState::Template, template)
     }
 
     // Opens an expression, which starts inside a variable: refused as a template is.
-    pub fn open_expression(&mut self, template: &'t [u8]) -> Result<(), OpenFault>
-        ensures { Opens self.old in_expression template.now result self.new }
+    pub fn open_expression(settings: &Settings, template: &'t [u8]) -> Result<Reader<'t>, OpenFault>
+        ensures told { tells result ≡ open_told max_len template.now }
+        ensures opened { IfOk result (λ r. Opened settings.now in_expression template.now r) }
     {
-        self.open(LexerState::Inside(BlockSentinel::Expression, 0), template)
+        Reader::open(
+            settings,
+            LexerState::Inside(BlockSentinel::Expression, 0),
+            template,
+        )
     }
 }

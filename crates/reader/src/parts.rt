@@ -2,6 +2,7 @@
 ghost use Rattle.std.specs.Prelude.{◌≡◌, ◌+◌, ◌≤◌};
 ghost use Rattle.places.specs.declared.Place.{Place as Spot};
 ghost use Rattle.places.specs.Places.{capped};
+ghost use Rattle.reader.specs.Limits.{max_len};
 ghost use Rattle.rules.specs.Reading.{balance_at};
 ghost use Rattle.rules.specs.Told.{fault_span, one_on};
 
@@ -35,7 +36,7 @@ pub(crate) fn fault_span(kind: FaultKind, start: Place, end: Place) -> Span
 
 // The part of a piece at the offset that is its text.
 pub(crate) fn text_range(offset: usize, from: usize, to: usize) -> TextRange
-    requires to_bound { offset + to ≤ 16777216 }
+    requires to_bound { offset + to ≤ max_len }
     requires from_le_to { from ≤ to }
     ensures { result ≡ record { start = offset + from; end = offset + to } }
 {
@@ -50,8 +51,7 @@ pub(crate) fn balance_at(balance: i64, state: LexerState) -> i64
     ensures { result ≡ balance_at balance state }
 {
     match state {
-        LexerState::Template => balance,
         LexerState::Inside(_, inner) => inner,
-        LexerState::Over => balance,
+        LexerState::Template | LexerState::Over => balance,
     }
 }

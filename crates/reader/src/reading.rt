@@ -2,6 +2,7 @@
 ghost use Rattle.std.proofs.Props.{props};
 ghost use Rattle.std.specs.Prelude.{◌≡◌, ◌+◌, ◌-◌, ◌<◌, ◌≤◌, length, IfErr, IfSome, Some as already, None as untold};
 ghost use Rattle.places.specs.Places.{capped};
+ghost use Rattle.reader.specs.Limits.{max_len};
 ghost use Rattle.rules.specs.At.{place_at, part_at, cut_part};
 ghost use Rattle.rules.specs.Config.{config_of};
 ghost use Rattle.rules.specs.Reading.{act, balance_at};
@@ -32,11 +33,11 @@ pub struct Reading<'t> {
     pub(crate) pending: Pending,
     // brackets that were opened, less those that were closed
     pub(crate) balance: i64,
-    // whether the cut was told: the rules' state has it, and so does what a reading is to them, while the code goes by how many are left
+    // whether the cut was told, behind which no reader rests
     pub(crate) cut_told: bool,
     // the ending, once it was told
     pub(crate) told: Option<Ending<ReadFault>>,
-    ghost small: { length template.now ≤ 16777216 },
+    ghost small: { length template.now ≤ max_len },
     ghost within: { left ≤ length template.now },
     ghost inside: { offset + held pending ≤ left },
     ghost lively: { 0 < least pending },
@@ -54,7 +55,7 @@ impl<'t> Reading<'t> {
 
     // The start of a template, which starts in this state.
     pub(crate) fn start(settings: &Settings, state: LexerState, template: &'t [u8]) -> Reading<'t>
-        requires small { length template.now ≤ 16777216 }
+        requires small { length template.now ≤ max_len }
         requires flat { level state ≡ 0 }
         requires wellformed { prefix template.now ≡ length template.now }
         ensures template { result.template.now ≡ template.now }
@@ -148,9 +149,10 @@ impl<'t> Reading<'t> {
             Ok(Some(step)) => Ok(Some(self.take_step(step))),
             Ok(None) => {
                 if self.left < self.template.len() {
-                    return Ok(Some(self.take_cut()));
+                    Ok(Some(self.take_cut()))
+                } else {
+                    self.end(Ok(()))
                 }
-                self.end(Ok(()))
             }
             Err(fault) => {
                 let fault = self.fault(fault);

@@ -49,6 +49,7 @@ impl<'t> Reader<'t> {
         ensures words { Decides result (AtRest self.now) }
     {
         let reading = &self.reading;
+        // `&` and not `&&`: each test is a comparison, and so the value is the definition's by one step
         let sound = !has_failed(reading.told) & !reading.cut_told;
         is_text(reading.state) & is_idle(reading.pending) & sound & self.is_line_start()
     }

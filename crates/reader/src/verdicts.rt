@@ -1,5 +1,6 @@
 // What the rules say at a place.
 ghost use Rattle.std.specs.Prelude.{◌≡◌, ◌≤◌, length};
+ghost use Rattle.reader.specs.Limits.{max_len};
 ghost use Rattle.rules.specs.Cursors.{config_at, behind, ahead};
 ghost use Rattle.rules.specs.Shapes.{held, level};
 ghost use Rattle.rules.specs.Texts.{over_verdict, verdict_by};
@@ -31,7 +32,7 @@ pub(crate) fn verdict_at<F: Finder>(
     pending: Pending,
 ) -> Verdict
     requires inside { held pending ≤ length (ahead here.now) }
-    requires shallow { level state ≤ 16777216 }
+    requires shallow { level state ≤ max_len }
     ensures { result ≡ verdict_by (F.Finder.openings finder.now) (config_at here.now) (behind here.now) (ahead here.now) state pending }
 {
     match state {

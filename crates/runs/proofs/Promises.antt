@@ -1,5 +1,5 @@
 -- What a run promises.
-use Rattle.std.proofs.Common.{◌≡◌, ℕ, false, List, [], ◌∷◌, map, take, refl, ap, ◌∙◌, subst, sym, Some, Ok, ◌⊎◌, inl, inr, ⊎_elim}
+use Rattle.std.proofs.Common.{◌≡◌, ℕ, ◌≤◌, false, List, [], ◌∷◌, map, length, take, refl, ap, ◌∙◌, subst, sym, Some, Ok, ◌⊎◌, inl, inr, ⊎_elim, arith}
 use Rattle.finder.specs.Finding.{Opening}
 use Rattle.syntax.specs.declared.settings.Settings.{Settings}
 use Rattle.syntax.specs.Openings.{openings_of}
@@ -9,6 +9,8 @@ use Rattle.rules.specs.Reading.{left_len, in_expression}
 use Rattle.rules.specs.Shapes.{level}
 use Rattle.rules.proofs.Lawful.{Apart}
 use Rattle.reader.specs.declared.reader.Reader.{Reader}
+use Rattle.reader.specs.Limits.{max_len}
+use Rattle.reader.specs.Opens.{open_told, Opened}
 use Rattle.reader.specs.Views.{View, view_of, config, unread}
 use Rattle.reader.proofs.Settings.{ended, apart, none_passed}
 use Rattle.reader.proofs.Tells.{same_tell}
@@ -21,7 +23,7 @@ use Rattle.runs.specs.declared.Reply.TheVariants.{Told}
 use Rattle.runs.specs.Calls.{Asked, calls_of, reply, behind_call, replies, served, LawfulCall, AllLawful}
 use Rattle.runs.specs.Named.{Named}
 use Rattle.runs.specs.Resting.{Run}
-use Rattle.runs.specs.Runs.{state_of, Opens, Drives, Starts, Promises, Promised}
+use Rattle.runs.specs.Runs.{state_of, Drives, Starts, Promises, Promised}
 use Rattle.runs.specs.Whole.{Whole}
 use Rattle.runs.proofs.Covered.{whole_run, named_run}
 use Rattle.runs.proofs.Gaps.{WaitsAt}
@@ -64,12 +66,16 @@ starting_in : (m : Mode) → (state_of m ≡ InTemplate) ⊎ (state_of m ≡ in_
 starting_in Template = inl refl
 starting_in Expression = inr refl
 
+-- a template that is opened is not too long
+opened_small : (t : List ℕ) → Ok tt ≡ open_told max_len t → length t ≤ max_len
+opened_small t e = grind (arith, e)
+
 -- what the calls on a reader that was opened tell
 pub promised_by : {F : Type 0} (openings : F → List Opening) (st : Settings) (m : Mode) (t : List ℕ) (cs ds : List (Call F)) (r : Reader)
-    → Opens st (state_of m) t (Ok r) → Drives (config r) (view_of r) openings cs ds → Promised st (state_of m) t (calls_of openings cs) ds (Ok tt)
-promised_by openings st m t cs ds r o e = λ l.
+    → Ok tt ≡ open_told max_len t → Opened st (state_of m) t r → Drives (config r) (view_of r) openings cs ds → Promised st (state_of m) t (calls_of openings cs) ds (Ok tt)
+promised_by openings st m t cs ds r n o e = λ l.
     let rs : List Reply = replies (config_of st) (unread (config_of st) (state_of m) t) (calls_of openings cs) in (
       rs,
-      e.1 ∙ ap (λ s. map Some (replies s (view_of r) (calls_of openings cs))) o.1 ∙ ap (λ v. map Some (replies (config_of st) v (calls_of openings cs))) o.2,
-      promised st (record { state = state_of m; template = t; calls = calls_of openings cs }) rs (starting_in m, o.0.0) l refl,
+      e.1 ∙ ap (λ s. map Some (replies (config_of s) (view_of r) (calls_of openings cs))) o.settings ∙ ap (λ v. map Some (replies (config_of st) v (calls_of openings cs))) o.view,
+      promised st (record { state = state_of m; template = t; calls = calls_of openings cs }) rs (starting_in m, opened_small t n) l refl,
     )

@@ -1,7 +1,6 @@
 -- What a run answers.
 use Rattle.std.specs.Prelude.{◌≡◌, ℕ, ◌≤◌, ◌⊎◌, List, [], map, reverse, length, take, Some, Ok, Err, Result}
 use Rattle.finder.specs.Finding.{Opening, blank_line}
-use Rattle.utf8.specs.Utf8.{prefix}
 use Rattle.syntax.specs.declared.settings.Settings.{Settings}
 use Rattle.syntax.specs.Openings.{openings_of}
 use Rattle.rules.specs.declared.LexerState.{LexerState}
@@ -11,9 +10,8 @@ use Rattle.rules.specs.Config.{Config, config_of}
 use Rattle.rules.specs.Reading.{in_expression}
 use Rattle.rules.specs.Tags.{dot_behind}
 use Rattle.reader.specs.declared.fault.OpenFault.{OpenFault}
-use Rattle.reader.specs.declared.reader.Reader.{Reader}
-use Rattle.reader.specs.Opens.{max_len, Refuses}
-use Rattle.reader.specs.Views.{View, view_of, config, unread}
+use Rattle.reader.specs.Limits.{max_len}
+use Rattle.reader.specs.Views.{View, unread}
 use Rattle.runs.specs.declared.Mode.{Mode}
 use Rattle.runs.specs.declared.Mode.TheVariants.{Template, Expression}
 use Rattle.runs.specs.declared.Call.{Call}
@@ -28,23 +26,14 @@ abbrev pub state_of : Mode → LexerState
 state_of Template = InTemplate
 state_of Expression = in_expression
 
--- a template that is opened
-abbrev pub Passes : List ℕ → Type 0
-Passes t = (length t ≤ max_len) × (prefix t ≡ length t)
-
--- what opening answers: a reader of the template of which nothing is read, or why there is none
-abbrev pub Opens : Settings → LexerState → List ℕ → Result Reader OpenFault → Type 0
-Opens st m t (Ok r) = Passes t × (config r ≡ config_of st) × (view_of r ≡ unread (config_of st) m t)
-Opens st m t (Err f) = Refuses t f
-
 -- calls on a reader: the asks are as they were, and each has beside it what the rules tell, one call after the other
 abbrev pub Drives : {F : Type 0} → Config → View → (F → List Opening) → List (Call F) → List (Call F) → Type 0
 Drives s v openings cs ds = (asks_of ds ≡ asks_of cs) × (replies_of ds ≡ map Some (replies s v (calls_of openings cs)))
 
--- what a run answers: where opening is refused, the refusal, and the calls are as they were; else each ask has beside it what the rules tell
+-- what a run leaves: where opening is refused, the calls as they were; else each ask has beside it what the rules tell
 abbrev pub Runs : {F : Type 0} → Config → LexerState → List ℕ → (F → List Opening) → List (Call F) → List (Call F) → Result Unit OpenFault → Type 0
-Runs s m t openings cs ds (Ok u) = Passes t × Drives s (unread s m t) openings cs ds
-Runs s m t openings cs ds (Err f) = Refuses t f × (ds ≡ cs)
+Runs s m t openings cs ds (Ok u) = Drives s (unread s m t) openings cs ds
+Runs s m t openings cs ds (Err f) = ds ≡ cs
 
 -- a run of a template or an expression that is not too long
 abbrev pub Starts : Run → Type 0

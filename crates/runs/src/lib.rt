@@ -4,11 +4,14 @@
 
 pub mod pile;
 
-ghost use Rattle.std.specs.Prelude.{◌≡◌, ℕ};
+ghost use Rattle.std.specs.Prelude.{◌≡◌, ℕ, IfOk};
 ghost use Rattle.rules.specs.Config.{config_of};
+ghost use Rattle.reader.specs.Faults.{tells};
+ghost use Rattle.reader.specs.Limits.{max_len};
+ghost use Rattle.reader.specs.Opens.{open_told, Opened};
 ghost use Rattle.reader.specs.Views.{view_of, config};
 ghost use Rattle.runs.specs.Calls.{call_of, calls_of, reply as reply_to, behind_call};
-ghost use Rattle.runs.specs.Runs.{state_of, Opens, Drives, Runs, Promised, LooksBack};
+ghost use Rattle.runs.specs.Runs.{state_of, Drives, Runs, Promised, LooksBack};
 
 use finder::Finder;
 use pieces::{Piece, ReadFault};
@@ -46,14 +49,13 @@ pub struct Call<F> {
 
 // Opens a reader.
 fn open<'t>(settings: &Settings, mode: Mode, template: &'t [u8]) -> Result<Reader<'t>, OpenFault>
-    ensures { Opens settings.now (state_of mode) template.now result }
+    ensures told { tells result ≡ open_told max_len template.now }
+    ensures opened { IfOk result (λ r. Opened settings.now (state_of mode) template.now r) }
 {
-    let mut reader = Reader::new(settings);
     match mode {
-        Mode::Template => reader.open_template(template)?,
-        Mode::Expression => reader.open_expression(template)?,
+        Mode::Template => Reader::open_template(settings, template),
+        Mode::Expression => Reader::open_expression(settings, template),
     }
-    Ok(reader)
 }
 
 // What a reader tells when it is asked.
@@ -88,6 +90,7 @@ pub fn drive<F: Finder>(
     template: &[u8],
     calls: &mut [Call<F>],
 ) -> Result<(), OpenFault>
+    ensures told { tells result ≡ open_told max_len template.now }
     ensures replies { Runs (config_of settings.now) (state_of mode) template.now F.Finder.openings calls.old calls.new result }
     ensures promised { Promised settings.now (state_of mode) template.now (calls_of F.Finder.openings calls.old) calls.new result }
     ensures lines { (i : ℕ) → LooksBack template.now i }

@@ -88,12 +88,10 @@ fn show<F: Finder>(rt: &impl Print, mut reader: Reader, finder: &F) -> io::Resul
 
 // Opens a template, or an expression where the line's field says so: read here and nowhere else, so an enum would be matched once more.
 fn open<'t>(settings: &Settings, mode: &str, template: &'t [u8]) -> Result<Reader<'t>, OpenFault> {
-    let mut reader = Reader::new(settings);
     match mode {
-        "e" => reader.open_expression(template)?,
-        _ => reader.open_template(template)?,
+        "e" => Reader::open_expression(settings, template),
+        _ => Reader::open_template(settings, template),
     }
-    Ok(reader)
 }
 
 // Answers one line. `locate` reads fields and delimiters, tells their refusals and runs over its lines in the same words: shared, each of these would be a public function,

@@ -9,10 +9,10 @@ use Rattle.listings.proofs.add_listing.Goals as goal
 
 pub returns-in-Ok : goal.returns-in-Ok
 returns-in-Ok c =
-    let refuses = rw c.in-Ok.is at c.open.ensures.refuses in
-    let view = rw c.in-Ok.is at c.open.ensures.view in
-    let before : config c.new-reader.result ≡ default_config = ap config_of c.new-reader.ensures.settings ∙ c.default_settings.ensures.config in
-    let opens : openings_of c.open.new.reader.settings ≡ default_openings = ap openings_of (c.open.ensures.settings ∙ c.new-reader.ensures.settings) ∙ c.default_settings.ensures.openings in
-    let same : config c.open.new.reader ≡ default_config = ap config_of c.open.ensures.settings ∙ before in
-    listed c.args.template.now c.open.new.reader refuses opens same (view ∙ ap (λ s. unread s Template c.args.template.now) before) _ _ _ _ _ c.new.ensures.items c.new.ensures.ending
-    (c.add_lines.ensures (c.new.ensures.serves default_openings (default_lawful c.open.new.reader opens)))
+    let told = rw c.in-Ok.is at c.open.ensures.told in
+    let opened = rw c.in-Ok.is at c.open.ensures.opened in
+    let r = c.in-Ok.reader in
+    let opens : openings_of r.settings ≡ default_openings = ap openings_of opened.settings ∙ c.default_settings-settings.ensures.openings in
+    let same : config r ≡ default_config = ap config_of opened.settings ∙ c.default_settings-settings.ensures.config in
+    listed c.args.template.now r told opens same (opened.view ∙ ap (λ s. unread s Template c.args.template.now) c.default_settings-settings.ensures.config) _ _ _ _ _ c.new.ensures.items c.new.ensures.ending
+    (c.add_lines.ensures (c.new.ensures.serves default_openings (default_lawful r opens)))

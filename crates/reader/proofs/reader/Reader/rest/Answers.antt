@@ -1,4 +1,4 @@
-use Rattle.std.proofs.Common.{◌≡◌, ◌+◌, ◌≤◌, Bool, not, ◌&&◌, sym, ap, ◌∙◌, arith}
+use Rattle.std.proofs.Common.{arith}
 use Rattle.reader.proofs.Fronts.{front_told}
 use Rattle.reader.proofs.reader.Reader.rest.Goals as goal
 
