@@ -1,5 +1,5 @@
 -- What a run answers.
-use Rattle.std.specs.Prelude.{◌≡◌, ℕ, ◌≤◌, ◌⊎◌, List, [], map, reverse, length, take, Some, Ok, Err, Result}
+use Rattle.std.specs.Prelude.{◌≡◌, ℕ, ◌≤◌, ◌⊎◌, List, [], map, reverse, length, take, Some, Ok, Err, IfSome, IfErr, All, Result}
 use Rattle.finder.specs.Finding.{Opening, blank_line}
 use Rattle.syntax.specs.declared.settings.Settings.{Settings}
 use Rattle.syntax.specs.Openings.{openings_of}
@@ -8,6 +8,7 @@ use Rattle.rules.specs.declared.LexerState.TheVariants.{Template as InTemplate}
 use Rattle.rules.specs.Bytes.{behind_at, line_before}
 use Rattle.rules.specs.Config.{Config, config_of}
 use Rattle.rules.specs.Reading.{in_expression}
+use Rattle.rules.specs.Shapes.{Numbered}
 use Rattle.rules.specs.Tags.{dot_behind}
 use Rattle.reader.specs.declared.fault.OpenFault.{OpenFault}
 use Rattle.reader.specs.Limits.{max_len}
@@ -16,6 +17,7 @@ use Rattle.runs.specs.declared.Mode.{Mode}
 use Rattle.runs.specs.declared.Mode.TheVariants.{Template, Expression}
 use Rattle.runs.specs.declared.Call.{Call}
 use Rattle.runs.specs.declared.Reply.{Reply}
+use Rattle.runs.specs.declared.Reply.TheVariants.{Told, Rests}
 use Rattle.runs.specs.Calls.{Asked, replies, asks_of, calls_of, replies_of, served, AllLawful}
 use Rattle.runs.specs.Whole.{Whole}
 use Rattle.runs.specs.Named.{Named}
@@ -34,6 +36,15 @@ Drives s v openings cs ds = (asks_of ds ≡ asks_of cs) × (replies_of ds ≡ ma
 abbrev pub Runs : {F : Type 0} → Config → LexerState → List ℕ → (F → List Opening) → List (Call F) → List (Call F) → Result Unit OpenFault → Type 0
 Runs s m t openings cs ds (Ok u) = Drives s (unread s m t) openings cs ds
 Runs s m t openings cs ds (Err f) = ds ≡ cs
+
+-- a fault that a reply tells has a number from 7 to 15, and is never that a string is not UTF-8
+abbrev pub NumberedReply : Reply → Type 0
+NumberedReply (Told r) = IfErr r (λ f. Numbered f.kind)
+NumberedReply (Rests b) = Unit {0}
+
+-- so is each reply that stands beside these calls
+abbrev pub AllNumbered : {F : Type 0} → List (Call F) → Type 0
+AllNumbered cs = All (λ c. IfSome c.reply NumberedReply) cs
 
 -- a run of a template or an expression that is not too long
 abbrev pub Starts : Run → Type 0

@@ -11,7 +11,7 @@ ghost use Rattle.reader.specs.Limits.{max_len};
 ghost use Rattle.reader.specs.Opens.{open_told, Opened};
 ghost use Rattle.reader.specs.Views.{view_of, config};
 ghost use Rattle.runs.specs.Calls.{call_of, calls_of, reply as reply_to, behind_call};
-ghost use Rattle.runs.specs.Runs.{state_of, Drives, Runs, Promised, LooksBack};
+ghost use Rattle.runs.specs.Runs.{state_of, Drives, Runs, NumberedReply, AllNumbered, Promised, LooksBack};
 
 use finder::Finder;
 use pieces::{Piece, ReadFault};
@@ -63,6 +63,7 @@ fn answer<F: Finder>(reader: &mut Reader, ask: &Ask<F>) -> Reply
     ensures value { result ≡ reply_to (config reader.old) (view_of reader.old) (call_of F.Finder.openings ask.now) }
     ensures view { view_of reader.new ≡ behind_call (config reader.old) (view_of reader.old) (call_of F.Finder.openings ask.now) }
     ensures settings { reader.new.settings ≡ reader.old.settings }
+    ensures numbered { NumberedReply result }
 {
     match ask {
         Ask::Next(finder) => Reply::Told(reader.next_piece(finder)),
@@ -72,7 +73,8 @@ fn answer<F: Finder>(reader: &mut Reader, ask: &Ask<F>) -> Reply
 
 // Asks a reader one thing after another.
 fn ask_all<F: Finder>(mut reader: Reader, calls: &mut [Call<F>])
-    ensures { Drives (config reader.entry) (view_of reader.entry) F.Finder.openings calls.old calls.new }
+    ensures drives { Drives (config reader.entry) (view_of reader.entry) F.Finder.openings calls.old calls.new }
+    ensures numbered { AllNumbered calls.new }
 {
     for call in calls.iter_mut() {
         call.reply = Some(answer(&mut reader, &call.ask));
@@ -92,6 +94,7 @@ pub fn drive<F: Finder>(
 ) -> Result<(), OpenFault>
     ensures told { tells result ≡ open_told max_len template.now }
     ensures replies { Runs (config_of settings.now) (state_of mode) template.now F.Finder.openings calls.old calls.new result }
+    ensures numbered { IfOk result (λ u. AllNumbered calls.new) }
     ensures promised { Promised settings.now (state_of mode) template.now (calls_of F.Finder.openings calls.old) calls.new result }
     ensures lines { (i : ℕ) → LooksBack template.now i }
 {

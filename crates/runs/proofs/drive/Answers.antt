@@ -14,4 +14,4 @@ returns-clause-promised g c =
     promised_by g.F.Finder.openings c.args.settings.now c.args.mode c.args.template.now c.args.calls.now c.ask_all.new.calls c.in_ok-reader.reader
     (search rules)
     (search rules)
-    c.ask_all.ensures
+    c.ask_all.ensures.drives
