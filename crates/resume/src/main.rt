@@ -49,6 +49,27 @@ fn turns<'m>(
     Ok(asks)
 }
 
+// Calls that ask all this, with no reply yet.
+fn calls_of<'m>(heap: Global, asks: &[Ask<Seeker<'m>>]) -> anyhow::Result<Vec<Call<Seeker<'m>>>> {
+    let mut calls = Vec::new(heap);
+    for ask in asks {
+        calls.push(Call {
+            ask: *ask,
+            reply: None,
+        })?;
+    }
+    Ok(calls)
+}
+
+// What calls told.
+fn replies_of(heap: Global, calls: &[Call<Seeker>]) -> anyhow::Result<Vec<Reply>> {
+    let mut replies = Vec::new(heap);
+    for reply in calls.iter().filter_map(|call| call.reply) {
+        replies.push(reply)?;
+    }
+    Ok(replies)
+}
+
 // What is told of a template that is not too long here; or why it is not opened.
 fn read(
     heap: Global,
@@ -58,24 +79,24 @@ fn read(
     if template.len() > MAX_LEN {
         return Ok(Err(OpenFault::TooLong));
     }
-    let mut calls = Vec::new(heap);
-    for ask in plan.asks {
-        calls.push(Call {
-            ask: *ask,
-            reply: None,
-        })?;
-    }
+    let mut calls = calls_of(heap, plan.asks)?;
     let opened = drive(
         plan.settings,
         Mode::Template,
         template,
         calls.as_mut_slice(),
     );
-    let mut replies = Vec::new(heap);
-    for reply in calls.iter().filter_map(|call| call.reply) {
-        replies.push(reply)?;
-    }
+    let replies = replies_of(heap, calls.as_slice())?;
     Ok(opened.map(|()| replies))
+}
+
+// Prints why a template is not opened.
+fn show_refusal(rt: &impl Print, fault: OpenFault) -> io::Result<()> {
+    let number = fault.number();
+    match fault.byte() {
+        Some(byte) => println!(rt; "refused {number} {byte}"),
+        None => println!(rt; "refused {number}"),
+    }
 }
 
 // Prints how far both readings agree from a resting point on.
@@ -152,7 +173,7 @@ fn run(rt: &(impl AllocGlobal + Input + Print)) -> anyhow::Result<()> {
     };
     match read(rt.alloc(), plan, template)? {
         Ok(told) => resume_all(rt, plan, Reading::until_end(template, told.as_slice())),
-        Err(fault) => Ok(println!(rt; "refused: {fault}")?),
+        Err(fault) => Ok(show_refusal(rt, fault)?),
     }
 }
 
