@@ -35,6 +35,7 @@ impl<S: Stream<Item = Piece>> Rows<S> {
         ensures falls { FallsIf result (⟦<LookAhead<S> as Stream>⟧.left self.old.pieces) (⟦<LookAhead<S> as Stream>⟧.left self.new.pieces) }
     {
         match self.pieces.look(finder) {
+            // No fault is lost: the look told a piece, so next tells that piece.
             Ok(Some(piece)) if piece.kind == Kind::White => self.pieces.next(finder).ok().flatten(),
             _ => None,
         }

@@ -46,7 +46,7 @@ TagSpelt name end xs (Some t) = Spelt name end t.1 (take t.0 xs)
 -- the bytes of the closing tag: the block start, a sign, and `endraw` spelt so
 abbrev pub CloserSpelt : Config → List ℕ → Option EndRaw → Type 0
 CloserSpelt s xs None = Unit {0}
-CloserSpelt s xs (Some r) = (ys : List ℕ) × (take r.len xs ≡ s.block_start ++ (sign_text r.first ++ ys)) × Spelt endraw_name s.block_end r.last ys
+CloserSpelt s xs (Some r) = (ys : List ℕ) × (take r.len xs ≡ s.block_start ++ (sign_text r.start_sign ++ ys)) × Spelt endraw_name s.block_end r.end_sign ys
 
 -- a closing tag stands at the place k of xs
 abbrev pub Closes : Config → List ℕ → ℕ → EndRaw → Type 0
@@ -59,6 +59,6 @@ FirstCloser s xs (Some t) = Closes s xs t.0 t.1 × ((k : ℕ) (r : EndRaw) → k
 
 -- a raw text ends at the first closing tag, which waits behind it; it is a fault exactly if there is none
 abbrev pub RawEnds : Config → List ℕ → Verdict → Type 0
-RawEnds s xs (Ok (Some p)) = (r : EndRaw) × (p.pending ≡ RawClose r.len r.last) × FirstCloser s xs (Some (p.len, r))
+RawEnds s xs (Ok (Some p)) = (r : EndRaw) × (p.pending ≡ RawClose r.len r.end_sign) × FirstCloser s xs (Some (p.len, r))
 RawEnds s xs (Ok None) = ⊥
 RawEnds s xs (Err f) = FirstCloser s xs None

@@ -54,22 +54,22 @@ pub fn end_raw_at(settings: &Settings, rest: &[u8]) -> Option<EndRaw>
     if !starts_with_bytes(rest, block_start) {
         return None;
     }
-    let first = Whitespace::at_front(after(rest, block_start.len()));
-    let start = block_start.len() + first.len();
-    let (len, last) = skip_basic_tag(
+    let start_sign = Whitespace::at_front(after(rest, block_start.len()));
+    let start = block_start.len() + start_sign.len();
+    let (len, end_sign) = skip_basic_tag(
         after(rest, start),
         b"endraw",
         settings.delimiter(DelimiterName::BlockEnd),
     )?;
     Some(EndRaw {
         len: start + len,
-        first,
-        last,
+        start_sign,
+        end_sign,
     })
 }
 
 // The first tag that closes a raw block: how far it is, and the tag.
-pub fn find_end_raw(settings: &Settings, rest: &[u8]) -> Option<(usize, EndRaw)>
+fn find_end_raw(settings: &Settings, rest: &[u8]) -> Option<(usize, EndRaw)>
     ensures value { result ≡ find_closer (config_of settings.now) rest.now }
     ensures first { FirstCloser (config_of settings.now) rest.now result }
     ensures within { FarWithin rest.now result }
@@ -111,7 +111,7 @@ fn raw_text(here: &Cursor, ws: Whitespace, distance: usize, tag: EndRaw) -> Step
     let body = until(here.ahead(), distance);
     let from = raw_from(here.settings, ws, body);
     let text = after(body, from);
-    let kept = left_before(here, distance, StartMarker::Block, tag.first, text);
+    let kept = left_before(here, distance, StartMarker::Block, tag.start_sign, text);
     Step {
         from,
         to: from + kept,
@@ -119,7 +119,7 @@ fn raw_text(here: &Cursor, ws: Whitespace, distance: usize, tag: EndRaw) -> Step
             Kind::RawText,
             body.len(),
             LexerState::Template,
-            Pending::RawClose(tag.len, tag.last),
+            Pending::RawClose(tag.len, tag.end_sign),
         )
     }
 }

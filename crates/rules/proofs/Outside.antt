@@ -166,7 +166,7 @@ raw_by_fits s g behind xs (Some e) h =
     let a = length-take e.0 xs in
     let b = raw_from_le s g body in
     let c = length-drop (raw_from s g body) body in
-    let d = raw_to_le s e.1.first (pushes body behind) (drop (raw_from s g body) body) in
+    let d = raw_to_le s e.1.start_sign (pushes body behind) (drop (raw_from s g body) body) in
     record { ahead = omega (arith, h.1); lively = h.0; ordered = omega arith; inside = omega arith; falls = omega arith; level = omega arith }
 
 raw_fits : (s : Config) (g : Whitespace) (behind xs : List ℕ) → Fits (length xs) Template (RawBody g) (raw_body s g behind xs)

@@ -88,7 +88,7 @@ endraw_name = codes "endraw"
 -- a tag that closes a raw block, whose start has n bytes and this sign behind it
 abbrev pub closer_by : ℕ → Whitespace → Option Basic → Option EndRaw
 closer_by n g None = None
-closer_by n g (Some t) = Some (record { len = n + (sign_len g + t.0); first = g; last = t.1 })
+closer_by n g (Some t) = Some (record { len = n + (sign_len g + t.0); start_sign = g; end_sign = t.1 })
 
 -- a block start, an optional sign, blanks, `endraw`, blanks, an optional sign and the block end stand here
 unfoldable pub closer_at : Config → List ℕ → Option EndRaw
@@ -132,7 +132,7 @@ raw_to s Default behind xs = stripped (due s Block behind) s xs
 abbrev pub raw_text_by : Config → Whitespace → List ℕ → List ℕ → EndRaw → Verdict
 raw_text_by s g behind body r =
     let from : ℕ = raw_from s g body in
-    told RawText (length body) from (from + raw_to s r.first (pushes body behind) (drop from body)) None Template (Closing r.len r.last)
+    told RawText (length body) from (from + raw_to s r.start_sign (pushes body behind) (drop from body)) None Template (Closing r.len r.end_sign)
 
 -- the body of a raw block whose tag has this sign at its end
 unfoldable pub raw_body : Config → Whitespace → List ℕ → List ℕ → Verdict

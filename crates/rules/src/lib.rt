@@ -47,8 +47,8 @@ pub enum Pending {
 #[derive(Clone, Copy, Debug, PartialEq, Eq)]
 pub struct EndRaw {
     pub len: usize,
-    pub first: Whitespace,
-    pub last: Whitespace,
+    pub start_sign: Whitespace,
+    pub end_sign: Whitespace,
 }
 
 // Which part of a number is read.

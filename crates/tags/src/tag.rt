@@ -10,7 +10,8 @@ use pieces::Kind;
 use rules::{BlockSentinel, Cursor, Fault, LexerState, Pending, Step, Verdict};
 use spaces::blank_run;
 
-// A place inside a tag, with bytes to come: what the tag was opened by, and the balance of its brackets, which one more keeps in an i64.
+// A place inside a tag, with bytes to come: what the tag was opened by, and the balance of its brackets, which is so small that an i64 still holds it with one
+// bracket more.
 #[derive(Clone, Copy, Debug)]
 pub struct Tag<'s> {
     pub here: Cursor<'s>,

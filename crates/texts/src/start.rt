@@ -131,7 +131,7 @@ impl<'s> Start<'s> {
         let step = match marker {
             StartMarker::Variable => self.tag(Kind::VariableStart, BlockSentinel::Variable),
             StartMarker::Block => self.block(settings),
-            StartMarker::Comment => return self.comment(settings),
+            StartMarker::Comment => self.comment(settings)?,
             StartMarker::LineStatement => self.tag(Kind::BlockStart, BlockSentinel::LineStatement),
             StartMarker::LineComment => self.line_comment(),
         };

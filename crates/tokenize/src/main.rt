@@ -86,7 +86,7 @@ fn show<F: Finder>(rt: &impl Print, mut reader: Reader, finder: &F) -> io::Resul
     }
 }
 
-// Opens a template, or an expression where the line's field says so: read here and nowhere else, so an enum would be matched once more.
+// Opens a template, or an expression where the line's field says so.
 fn open<'t>(settings: &Settings, mode: &str, template: &'t [u8]) -> Result<Reader<'t>, OpenFault> {
     match mode {
         "e" => Reader::open_expression(settings, template),
