@@ -26,6 +26,7 @@ pub record Meaning (I : Type 0) : Type 0 where
   pub items : List I
   pub ending : Ending ReadFault
 
+-- by its items and its ending
 abbrev pub meant : {I : Type 0} → List I → Ending ReadFault → Meaning I
 meant is e = record { items = is; ending = e }
 
@@ -35,7 +36,7 @@ pub record Asks (I : Type 0) : Type 0 where
   pub line : I → ℕ
   pub shifted : Place → Option ℕ → I → I
 
--- of pieces
+-- of pieces, as the layers' impls have it
 abbrev pub of_pieces : Asks Piece
 of_pieces = record { gap = piece_gap; line = piece_line; shifted = shift_piece }
 

@@ -4,7 +4,8 @@ ghost use Rattle.std.proofs.Common.{ap, ◌∙◌};
 ghost use Rattle.finder.specs.Finding.{Opening};
 ghost use Rattle.reader.specs.Views.{Lawful};
 ghost use Rattle.reader.specs.declared.reader.Reader.{Reader};
-ghost use Rattle.runs.specs.Piles.{Layer, Tokens as of_tokens, Shift as of_shift, LookAhead as of_look_ahead, meant, of_pieces, without_gaps, shifted_by, with_held, pile_of, IsPile, Tells, unanswered, Answered, AllServe};
+ghost use Rattle.runs.specs.Piles.{Layer, Tokens as of_tokens, Shift as of_shift, LookAhead as of_look_ahead};
+ghost use Rattle.runs.specs.Piles.{meant, of_pieces, without_gaps, shifted_by, with_held, pile_of, IsPile, Tells, unanswered, Answered, AllServe};
 
 use finder::Finder;
 use layers::{Shift, Tokens};
