@@ -21,6 +21,7 @@ impl<S: Stream> LookAhead<S> {
         ensures ending { ⟦<Self as Stream>⟧.ending result ≡ S.Stream.ending below }
         ensures serves { (os : List Opening) → S.Stream.serves below os → ⟦<Self as Stream>⟧.serves result os }
         ensures left { ⟦<Self as Stream>⟧.left result ≡ S.Stream.left below }
+        ensures made { result ≡ record { below = below; held = None } }
     {
         LookAhead { below, held: None }
     }
