@@ -87,7 +87,7 @@ fn read(
         calls.as_mut_slice(),
     );
     let replies = replies_of(heap, calls.as_slice())?;
-    Ok(opened.map(|()| replies))
+    Ok(opened.map(|_| replies))
 }
 
 // Prints why a template is not opened.

@@ -6,7 +6,7 @@ use Rattle.rules.specs.Config.{Config}
 use Rattle.reader.specs.Views.{View}
 use Rattle.runs.specs.declared.Call.{Call}
 use Rattle.runs.specs.declared.Reply.{Reply}
-use Rattle.runs.specs.Calls.{Asked, reply, behind_call, replies, call_of, asks_of, calls_of, replies_of}
+use Rattle.runs.specs.Calls.{Asked, reply, behind_call, replies, behind_calls, call_of, asks_of, calls_of, replies_of}
 
 module _ {F : Type 0} (openings : F → List Opening) (s : Config) (v : View) (cs : List (Call F)) where
   -- in ds the first i of the calls cs have their replies; behind them the reader stands at w
@@ -14,9 +14,10 @@ module _ {F : Type 0} (openings : F → List Opening) (s : Config) (v : View) (c
     pub many : length ds ≡ length cs
     pub asks : asks_of ds ≡ asks_of cs
     pub told : replies_of (take i ds) ++ map Some (replies s w (calls_of openings (drop i cs))) ≡ map Some (replies s v (calls_of openings cs))
+    pub left : behind_calls s w (calls_of openings (drop i cs)) ≡ behind_calls s v (calls_of openings cs)
 
   pub driven_none : Driven v cs 0
-  driven_none = record { many = refl; asks = refl; told = refl }
+  driven_none = record { many = refl; asks = refl; told = refl; left = refl }
 
   -- what is asked stays
   same_ask : (ds : List (Call F)) (i : ℕ) (d : Call F) → asks_of ds ≡ asks_of cs → i < length ds → i < length cs → (get_or ds i d).ask ≡ (get_or cs i d).ask
@@ -39,7 +40,7 @@ module _ {F : Type 0} (openings : F → List Opening) (s : Config) (v : View) (c
   -- one call more is answered
   pub driven_more : (w x : View) (ds : List (Call F)) (i : ℕ) (d : Call F) (r : Reply) → Driven w ds i → i < length cs → r ≡ reply s w (call_of openings (get_or ds i d).ask) → x ≡ behind_call s w (call_of openings (get_or ds i d).ask)
       → Driven x (set ds i (record { ask = (get_or ds i d).ask; reply = Some r })) (i + 1)
-  unfolding replies
+  unfolding replies behind_calls
   driven_more w x ds i d r h k a b =
       let m = h.many in
       let c : Call F = record { ask = (get_or ds i d).ask; reply = Some r } in
@@ -57,6 +58,7 @@ module _ {F : Type 0} (openings : F → List Opening) (s : Config) (v : View) (c
             ∙ ap (λ y. replies_of (take i ds) ++ Some (reply s w q) ∷ map Some (replies s y (calls_of openings (drop (i + 1) cs)))) b
             ∙ sym (ap (λ l. replies_of (take i ds) ++ map Some (replies s w l)) z)
             ∙ h.told;
+        left = ap (λ y. behind_calls s y (calls_of openings (drop (i + 1) cs))) b ∙ sym (ap (behind_calls s w) z) ∙ h.left;
       }
 
   -- all calls are answered
@@ -68,3 +70,8 @@ module _ {F : Type 0} (openings : F → List Opening) (s : Config) (v : View) (c
       ∙ ap (λ l. replies_of l ++ []) (sym (take_all i ds (omega arith)))
       ∙ ap (λ l. replies_of (take i ds) ++ map Some (replies s w (calls_of openings l))) (sym (drop_all i cs h))
       ∙ d.told
+
+  -- and the reader stands behind them all
+  pub driven_behind : (w : View) (ds : List (Call F)) (i : ℕ) → length cs ≤ i → Driven w ds i → w ≡ behind_calls s v (calls_of openings cs)
+  unfolding behind_calls
+  driven_behind w ds i h d = ap (λ l. behind_calls s w (calls_of openings l)) (sym (drop_all i cs h)) ∙ d.left

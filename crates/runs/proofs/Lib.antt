@@ -15,4 +15,5 @@ pub mod Turns
 pub mod Pairs
 pub mod Resting
 pub mod Driven
+pub mod Closing
 pub mod Promises

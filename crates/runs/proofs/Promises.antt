@@ -8,6 +8,7 @@ use Rattle.rules.specs.Config.{Config, config_of}
 use Rattle.rules.specs.Reading.{left_len, in_expression}
 use Rattle.rules.specs.Shapes.{level}
 use Rattle.rules.proofs.Lawful.{Apart}
+use Rattle.reader.specs.declared.closing.Closed.{Closed}
 use Rattle.reader.specs.declared.reader.Reader.{Reader}
 use Rattle.reader.specs.Limits.{max_len}
 use Rattle.reader.specs.Opens.{open_told, Opened}
@@ -71,9 +72,9 @@ opened_small : (t : List ℕ) → Ok tt ≡ open_told max_len t → length t ≤
 opened_small t e = grind (arith, e)
 
 -- what the calls on a reader that was opened tell
-pub promised_by : {F : Type 0} (openings : F → List Opening) (st : Settings) (m : Mode) (t : List ℕ) (cs ds : List (Call F)) (r : Reader)
-    → Ok tt ≡ open_told max_len t → Opened st (state_of m) t r → Drives (config r) (view_of r) openings cs ds → Promised st (state_of m) t (calls_of openings cs) ds (Ok tt)
-promised_by openings st m t cs ds r n o e = λ l.
+pub promised_by : {F : Type 0} (openings : F → List Opening) (st : Settings) (m : Mode) (t : List ℕ) (cs ds : List (Call F)) (r : Reader) (c : Closed)
+    → Ok tt ≡ open_told max_len t → Opened st (state_of m) t r → Drives (config r) (view_of r) openings cs ds → Promised st (state_of m) t (calls_of openings cs) ds (Ok c)
+promised_by openings st m t cs ds r c n o e = λ l.
     let rs : List Reply = replies (config_of st) (unread (config_of st) (state_of m) t) (calls_of openings cs) in (
       rs,
       e.1 ∙ ap (λ s. map Some (replies (config_of s) (view_of r) (calls_of openings cs))) o.settings ∙ ap (λ v. map Some (replies (config_of st) v (calls_of openings cs))) o.view,

@@ -10,6 +10,8 @@ use Rattle.rules.specs.Config.{Config, config_of}
 use Rattle.rules.specs.Reading.{in_expression}
 use Rattle.rules.specs.Shapes.{Numbered}
 use Rattle.rules.specs.Tags.{dot_behind}
+use Rattle.places.specs.Places.{capped}
+use Rattle.reader.specs.declared.closing.Closed.{Closed}
 use Rattle.reader.specs.declared.fault.OpenFault.{OpenFault}
 use Rattle.reader.specs.Limits.{max_len}
 use Rattle.reader.specs.Views.{View, unread}
@@ -18,7 +20,7 @@ use Rattle.runs.specs.declared.Mode.TheVariants.{Template, Expression}
 use Rattle.runs.specs.declared.Call.{Call}
 use Rattle.runs.specs.declared.Reply.{Reply}
 use Rattle.runs.specs.declared.Reply.TheVariants.{Told, Rests}
-use Rattle.runs.specs.Calls.{Asked, replies, asks_of, calls_of, replies_of, served, AllLawful}
+use Rattle.runs.specs.Calls.{Asked, replies, behind_calls, asks_of, calls_of, replies_of, served, AllLawful}
 use Rattle.runs.specs.Whole.{Whole}
 use Rattle.runs.specs.Named.{Named}
 use Rattle.runs.specs.Resting.{Run, Resting}
@@ -32,9 +34,13 @@ state_of Expression = in_expression
 abbrev pub Drives : {F : Type 0} → Config → View → (F → List Opening) → List (Call F) → List (Call F) → Type 0
 Drives s v openings cs ds = (asks_of ds ≡ asks_of cs) × (replies_of ds ≡ map Some (replies s v (calls_of openings cs)))
 
--- what a run leaves: where opening is refused, the calls as they were; else each ask has beside it what the rules tell
-abbrev pub Runs : {F : Type 0} → Config → LexerState → List ℕ → (F → List Opening) → List (Call F) → List (Call F) → Result Unit OpenFault → Type 0
-Runs s m t openings cs ds (Ok u) = Drives s (unread s m t) openings cs ds
+-- what closing a reader tells that stands at a view
+abbrev pub Shuts : View → Closed → Type 0
+Shuts v c = (c.end ≡ capped v.place) × (c.ending ≡ v.told) × (c.balance ≡ v.balance)
+
+-- what a run leaves: where opening is refused, the calls as they were; else each ask has beside it what the rules tell, and the reader is closed behind them all
+abbrev pub Runs : {F : Type 0} → Config → LexerState → List ℕ → (F → List Opening) → List (Call F) → List (Call F) → Result Closed OpenFault → Type 0
+Runs s m t openings cs ds (Ok c) = Drives s (unread s m t) openings cs ds × Shuts (behind_calls s (unread s m t) (calls_of openings cs)) c
 Runs s m t openings cs ds (Err f) = ds ≡ cs
 
 -- a fault that a reply tells has a number from 7 to 15, and is never that a string is not UTF-8
@@ -65,6 +71,6 @@ pub record Promises (st : Settings) (m : LexerState) (t : List ℕ) (cs : List A
   pub resting : (q : Run) → Starts q → Resting (openings_of st) (config_of st) (record { state = m; template = t; calls = cs }) q
 
 -- a run by lawful finders keeps them: of the calls that were asked and the replies that it left
-abbrev pub Promised : {F : Type 0} → Settings → LexerState → List ℕ → List Asked → List (Call F) → Result Unit OpenFault → Type 0
-Promised st m t cs ds (Ok u) = AllLawful (openings_of st) cs → (rs : List Reply) × (replies_of ds ≡ map Some rs) × Promises st m t cs rs
+abbrev pub Promised : {F : Type 0} → Settings → LexerState → List ℕ → List Asked → List (Call F) → Result Closed OpenFault → Type 0
+Promised st m t cs ds (Ok c) = AllLawful (openings_of st) cs → (rs : List Reply) × (replies_of ds ≡ map Some rs) × Promises st m t cs rs
 Promised st m t cs ds (Err f) = Unit {0}

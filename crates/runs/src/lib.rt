@@ -10,13 +10,14 @@ ghost use Rattle.reader.specs.Faults.{tells};
 ghost use Rattle.reader.specs.Limits.{max_len};
 ghost use Rattle.reader.specs.Opens.{open_told, Opened};
 ghost use Rattle.reader.specs.Views.{view_of, config};
-ghost use Rattle.runs.specs.Calls.{call_of, calls_of, reply as reply_to, behind_call};
+ghost use Rattle.runs.specs.Calls.{call_of, calls_of, reply as reply_to, behind_call, behind_calls};
+ghost use Rattle.runs.specs.Closed.{ClosedBehind};
 ghost use Rattle.runs.specs.Runs.{state_of, Drives, Runs, NumberedReply, AllNumbered, Promised, LooksBack};
 
 use finder::Finder;
 use pieces::{Piece, ReadFault};
 pub use pile::{Pile, PileCall, Turn, drive_pile};
-use reader::{OpenFault, Reader};
+use reader::{Closed, OpenFault, Reader};
 use syntax::Settings;
 
 // What is opened.
@@ -72,16 +73,18 @@ fn answer<F: Finder>(reader: &mut Reader, ask: &Ask<F>) -> Reply
 }
 
 // Asks a reader one thing after another.
-fn ask_all<F: Finder>(mut reader: Reader, calls: &mut [Call<F>])
-    ensures drives { Drives (config reader.entry) (view_of reader.entry) F.Finder.openings calls.old calls.new }
+fn ask_all<F: Finder>(reader: &mut Reader, calls: &mut [Call<F>])
+    ensures replies { Drives (config reader.old) (view_of reader.old) F.Finder.openings calls.old calls.new }
+    ensures view { view_of reader.new ≡ behind_calls (config reader.old) (view_of reader.old) (calls_of F.Finder.openings calls.old) }
     ensures numbered { AllNumbered calls.new }
 {
     for call in calls.iter_mut() {
-        call.reply = Some(answer(&mut reader, &call.ask));
+        call.reply = Some(answer(reader, &call.ask));
     }
 }
 
-// Opens a reader, makes one call after another on it, and writes each reply beside what was asked. A refusal of opening leaves the calls as they are.
+// Opens a reader, makes one call after another on it, writes each reply beside what was asked, and closes the reader. A refusal of opening leaves the calls as
+// they are. `closed` is what closing tells by these replies alone, whichever finders served the calls.
 // `promised` is what the run as a whole promises where each finder means the openings of the settings: it does not matter which of them serves a call, no byte
 // is lost, doubled or invented, no piece is misnamed, and no earlier text reaches past a resting point. `lines` is a law of the rules and speaks of no run: they
 // keep only the bytes since the last LF, and looking back over these tells what looking back over all that was read would. So `promised` can speak of the whole
@@ -91,14 +94,15 @@ pub fn drive<F: Finder>(
     mode: Mode,
     template: &[u8],
     calls: &mut [Call<F>],
-) -> Result<(), OpenFault>
+) -> Result<Closed, OpenFault>
     ensures told { tells result ≡ open_told max_len template.now }
     ensures replies { Runs (config_of settings.now) (state_of mode) template.now F.Finder.openings calls.old calls.new result }
-    ensures numbered { IfOk result (λ u. AllNumbered calls.new) }
+    ensures numbered { IfOk result (λ c. AllNumbered calls.new) }
+    ensures closed { ClosedBehind calls.new result }
     ensures promised { Promised settings.now (state_of mode) template.now (calls_of F.Finder.openings calls.old) calls.new result }
     ensures lines { (i : ℕ) → LooksBack template.now i }
 {
-    let reader = open(settings, mode, template)?;
-    ask_all(reader, calls);
-    Ok(())
+    let mut reader = open(settings, mode, template)?;
+    ask_all(&mut reader, calls);
+    Ok(reader.close())
 }

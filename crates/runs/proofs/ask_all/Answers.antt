@@ -4,11 +4,11 @@ use Rattle.rules.specs.Config.{config_of}
 use Rattle.reader.specs.Views.{view_of, config}
 use Rattle.runs.specs.Calls.{call_of, reply, behind_call}
 use Rattle.runs.specs.Runs.{NumberedReply}
-use Rattle.runs.proofs.Driven.{driven_none, driven_more, driven_all}
+use Rattle.runs.proofs.Driven.{driven_none, driven_more, driven_all, driven_behind}
 use Rattle.runs.proofs.ask_all.Goals as goal
 
 pub loop-call-init : goal.loop-call-init
-loop-call-init g c = (refl, driven_none g.F.Finder.openings (config c.args.reader) (view_of c.args.reader) c.args.calls.now, AllWithin-none (λ x. IfSome x.reply NumberedReply) c.args.calls.now 0)
+loop-call-init g c = (refl, driven_none g.F.Finder.openings (config c.args.reader.now) (view_of c.args.reader.now) c.args.calls.now, AllWithin-none (λ x. IfSome x.reply NumberedReply) c.args.calls.now 0)
 
 pub loop-call-preserved : goal.loop-call-preserved
 loop-call-preserved g c =
@@ -18,7 +18,7 @@ loop-call-preserved g c =
     let many = c.loop-call.invariant.1.many in
     let q = call_of openings (get_or c.loop-call.calls c.loop-call.call-index c.call-item.result).ask in (
       ap config_of c.answer.ensures.settings ∙ e,
-      driven_more openings (config c.args.reader) (view_of c.args.reader) c.args.calls.now w (view_of c.answer.new.reader) c.loop-call.calls c.loop-call.call-index c.call-item.result c.answer.result
+      driven_more openings (config c.args.reader.now) (view_of c.args.reader.now) c.args.calls.now w (view_of c.answer.new.reader) c.loop-call.calls c.loop-call.call-index c.call-item.result c.answer.result
           c.loop-call.invariant.1
           c.loop-call-test.true
           (c.answer.ensures.value ∙ ap (λ s. reply s w q) e)
@@ -26,10 +26,16 @@ loop-call-preserved g c =
       AllWithin-more_set c.loop-call.calls c.loop-call.call-index (record { ask = (get_or c.loop-call.calls c.loop-call.call-index c.call-item.result).ask; reply = Some c.answer.result }) (omega (arith, many, c.loop-call-test.true)) (λ x. IfSome x.reply NumberedReply) c.loop-call.invariant.2 c.answer.ensures.numbered,
     )
 
-pub returns : goal.returns
-returns g c =
+pub returns-clause-replies : goal.returns-clause-replies
+returns-clause-replies g c =
     let d = c.loop-call.invariant.1 in
-    record {
-      drives = (d.asks, driven_all g.F.Finder.openings (config c.args.reader) (view_of c.args.reader) c.args.calls.now (view_of c.loop-call.reader) c.loop-call.calls c.loop-call.call-index c.loop-call-test.false d);
-      numbered = All-from_all_within (λ x. IfSome x.reply NumberedReply) c.loop-call.calls (AllWithin-upto (λ x. IfSome x.reply NumberedReply) c.loop-call.calls 0 c.loop-call.call-index (length c.loop-call.calls) (omega (arith, d.many, c.loop-call-test.false)) c.loop-call.invariant.2);
-    }
+    (d.asks, driven_all g.F.Finder.openings (config c.args.reader.now) (view_of c.args.reader.now) c.args.calls.now (view_of c.loop-call.reader) c.loop-call.calls c.loop-call.call-index c.loop-call-test.false d)
+
+pub returns-clause-view : goal.returns-clause-view
+returns-clause-view g c =
+    driven_behind g.F.Finder.openings (config c.args.reader.now) (view_of c.args.reader.now) c.args.calls.now (view_of c.loop-call.reader) c.loop-call.calls c.loop-call.call-index c.loop-call-test.false
+    c.loop-call.invariant.1
+
+pub returns-clause-numbered : goal.returns-clause-numbered
+returns-clause-numbered g c =
+    All-from_all_within (λ x. IfSome x.reply NumberedReply) c.loop-call.calls (AllWithin-upto (λ x. IfSome x.reply NumberedReply) c.loop-call.calls 0 c.loop-call.call-index (length c.loop-call.calls) (omega (arith, c.loop-call.invariant.1.many, c.loop-call-test.false)) c.loop-call.invariant.2)
