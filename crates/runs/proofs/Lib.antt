@@ -15,5 +15,6 @@ pub mod Turns
 pub mod Pairs
 pub mod Resting
 pub mod Driven
+pub mod Balance
 pub mod Closing
 pub mod Promises

@@ -3,8 +3,11 @@ use Rattle.std.specs.Prelude.{◌≡◌, List, [], ◌∷◌, map, ℤ, pos, ◌
 use Rattle.stream.specs.Told.{Ending}
 use Rattle.places.specs.declared.Place.{Place}
 use Rattle.places.specs.Places.{first_place}
+use Rattle.pieces.specs.declared.kind.Kind.{Kind}
+use Rattle.pieces.specs.declared.kind.Kind.TheVariants.{Operator as Operates}
 use Rattle.pieces.specs.declared.piece.Piece.{Piece}
 use Rattle.pieces.specs.declared.fault.ReadFault.{ReadFault}
+use Rattle.rules.specs.Tags.{weight}
 use Rattle.reader.specs.declared.closing.Closed.{Closed}
 use Rattle.reader.specs.declared.fault.OpenFault.{OpenFault}
 use Rattle.runs.specs.declared.Call.{Call}
@@ -34,10 +37,25 @@ unfoldable pub told_ending : List Reply → Option (Ending ReadFault)
 told_ending [] = None
 told_ending (r ∷ rs) = elim (ending_in r) [ Some e ↦ Some e | None ↦ told_ending rs ]
 
+-- what a piece adds to the balance of brackets: an operator its weight, and any other piece nothing
+abbrev pub weight_of : Kind → ℤ
+weight_of (Operates o) = weight o
+weight_of k = pos 0
+
+-- what some pieces add together
+unfoldable pub weights : List Piece → ℤ
+weights [] = pos 0
+weights (p ∷ ps) = weight_of p.kind +ℤ weights ps
+
+-- the balance of the brackets that are told, openers less closers
+abbrev pub balance_of : List Reply → ℤ
+balance_of rs = weights (pieces_of rs)
+
 -- what closing tells behind these replies
 pub record Closes (rs : List Reply) (c : Closed) : Type 0 where
   pub end : c.end ≡ last_end rs
   pub ending : c.ending ≡ told_ending rs
+  pub balance : c.balance ≡ balance_of rs
 
 -- what closing tells behind the replies that stand beside the calls
 abbrev pub ClosedBehind : {F : Type 0} → List (Call F) → Result Closed OpenFault → Type 0

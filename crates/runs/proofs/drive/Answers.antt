@@ -1,5 +1,4 @@
 use Rattle.std.proofs.Common.{rules}
-use Rattle.runs.specs.Runs.{state_of}
 use Rattle.runs.proofs.Closing.{closed_by}
 use Rattle.runs.proofs.Promises.{promised_by}
 use Rattle.runs.proofs.Words.{lines_suffice}
@@ -13,7 +12,7 @@ returns-clause-lines g c = lines_suffice c.args.template.now
 
 pub returns-clause-closed : goal.returns-clause-closed
 returns-clause-closed g c =
-    closed_by g.F.Finder.openings c.args.settings.now (state_of c.args.mode) c.args.template.now c.args.calls.now c.ask_all.new.calls c.in_ok-reader.reader c.ask_all.new.reader c.close.result
+    closed_by g.F.Finder.openings c.args.settings.now c.args.mode c.args.template.now c.args.calls.now c.ask_all.new.calls c.in_ok-reader.reader c.ask_all.new.reader c.close.result
     (search rules)
     c.ask_all.ensures.replies
     c.ask_all.ensures.view
