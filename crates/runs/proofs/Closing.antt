@@ -20,6 +20,7 @@ use Rattle.rules.specs.Texts.{verdict}
 use Rattle.rules.specs.Told.{ended}
 use Rattle.reader.specs.declared.closing.Closed.{Closed}
 use Rattle.reader.specs.declared.reader.Reader.{Reader}
+use Rattle.reader.specs.Opens.{Opened}
 use Rattle.reader.specs.Views.{View, told_as, tell_by, tell, view_of, config, unread}
 use Rattle.reader.proofs.Tells.{told_before, told_now}
 use Rattle.runs.specs.declared.Call.{Call}
@@ -30,7 +31,7 @@ use Rattle.runs.specs.declared.Reply.{Reply}
 use Rattle.runs.specs.declared.Reply.TheVariants.{Told}
 use Rattle.runs.specs.Calls.{Asked, reply, behind_call, replies, behind_calls, calls_of}
 use Rattle.runs.specs.Closed.{end_of_last, ending_in, told_ending, weight_of, weights, Closes, ClosedBehind}
-use Rattle.runs.specs.Runs.{state_of, Opens, Drives, Shuts}
+use Rattle.runs.specs.Runs.{state_of, Drives, Shuts}
 use Rattle.runs.specs.Whole.{piece_of, pieces_of}
 use Rattle.runs.proofs.Balance.{Balanced, Weighs, verdict_weighs}
 
@@ -162,9 +163,9 @@ starts_sound s Expression t = refl
 
 -- what closing tells of a reader that was opened, behind calls on it
 pub closed_by : {F : Type 0} (openings : F → List Opening) (st : Settings) (m : Mode) (t : List ℕ) (cs ds : List (Call F)) (r q : Reader) (c : Closed)
-    → Opens st (state_of m) t (Ok r) → Drives (config r) (view_of r) openings cs ds → view_of q ≡ behind_calls (config r) (view_of r) (calls_of openings cs) → Shuts (view_of q) c → ClosedBehind ds (Ok c)
+    → Opened st (state_of m) t r → Drives (config r) (view_of r) openings cs ds → view_of q ≡ behind_calls (config r) (view_of r) (calls_of openings cs) → Shuts (view_of q) c → ClosedBehind ds (Ok c)
 closed_by openings st m t cs ds r q c o d e h = (
   replies (config r) (view_of r) (calls_of openings cs),
   d.1,
-  closes_at (config r) (view_of r) (view_of q) (calls_of openings cs) c (ap (λ v. v.place) o.2) (ap (λ v. v.told) o.2) (ap (λ v. v.balance) o.2) (subst Sound (sym o.2) (starts_sound (config_of st) m t)) e h,
+  closes_at (config r) (view_of r) (view_of q) (calls_of openings cs) c (ap (λ v. v.place) o.view) (ap (λ v. v.told) o.view) (ap (λ v. v.balance) o.view) (subst Sound (sym o.view) (starts_sound (config_of st) m t)) e h,
 )
