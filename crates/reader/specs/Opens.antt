@@ -8,7 +8,8 @@ use Rattle.reader.specs.declared.reader.Reader.{Reader}
 use Rattle.reader.specs.Faults.{Told}
 use Rattle.reader.specs.Views.{view_of, unread}
 
--- what opening tells of a template where so many bytes are allowed: with 5 that it has more, then with 6 and the length of its well-formed prefix that it is not UTF-8
+-- what opening tells where so many bytes are allowed: with 5 that the template has more, then with 6 and the length of its well-formed prefix
+-- that it is not UTF-8
 abbrev pub open_told : ℕ → List ℕ → Result Unit Told
 open_told most t = elim (nat_le (length t) most) [
   | true ↦ elim (prefix t == length t) [
