@@ -86,9 +86,9 @@ fn ask_all<F: Finder>(reader: &mut Reader, calls: &mut [Call<F>])
 // Opens a reader, makes one call after another on it, writes each reply beside what was asked, and closes the reader. A refusal of opening leaves the calls as
 // they are. `closed` is what closing tells by these replies alone, whichever finders served the calls.
 // `promised` is what the run as a whole promises where each finder means the openings of the settings: it does not matter which of them serves a call, no byte
-// is lost, doubled or invented, no piece is misnamed, and no earlier text reaches past a resting point. `lines` is a law of the rules and speaks of no run: they
-// keep only the bytes since the last LF, and looking back over these tells what looking back over all that was read would. So `promised` can speak of the whole
-// template.
+// is lost, doubled or invented, no piece is misnamed, and no earlier text reaches past a resting point. `lines` is a law of the rules and speaks of no run:
+// they keep only the bytes since the last LF, and looking back over these tells what looking back over all that was read would. So `promised` can speak of the
+// whole template.
 pub fn drive<F: Finder>(
     settings: &Settings,
     mode: Mode,
