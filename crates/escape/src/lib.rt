@@ -2,10 +2,10 @@
 
 #![tactic(auto)]
 
-pub mod chars;
-pub mod fault;
+mod chars;
+mod fault;
 mod source;
-pub mod unescaper;
+mod unescaper;
 
 pub use chars::CharIndices;
 pub use fault::{BadEscape, DecodeFault};

@@ -2,8 +2,8 @@
 
 #![tactic(auto)]
 
-pub mod defaults;
-pub mod matcher;
+mod defaults;
+mod matcher;
 mod pattern;
 mod patterns;
 mod spot;

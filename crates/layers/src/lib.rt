@@ -2,12 +2,12 @@
 
 #![tactic(auto)]
 
-pub mod base;
-pub mod fault;
-pub mod parts;
-pub mod piece;
-pub mod shift;
-pub mod tokens;
+mod base;
+mod fault;
+mod parts;
+mod piece;
+mod shift;
+mod tokens;
 
 pub use base::Base;
 pub use parts::{Gap, Placed};

@@ -14,7 +14,7 @@ use Rattle.reader.specs.Opens.{open_told}
 use Rattle.reader.specs.Views.{config, view_of, items_of, ending_of, Lawful}
 use Rattle.listings.specs.declared.row.Row.{Row}
 use Rattle.listings.specs.Rows.{row_text, joined}
-use Rattle.listings.specs.Listing.{max_len, refusal_line, ending_line, lines, opened, pieces_in, ending_in, listing}
+use Rattle.listings.specs.Listing.{max_listed, refusal_line, ending_line, lines, opened, pieces_in, ending_in, listing}
 
 lines_row : (p : Place) (r : Row) (rs : List Row) (e : Ending ReadFault) → lines p (r ∷ rs) e ≡ (row_text r ++ (10 ∷ [])) ++ lines r.span.end rs e
 unfolding lines
@@ -48,7 +48,7 @@ pub default_lawful : (r : Reader) → openings_of r.settings ≡ default_opening
 default_lawful r e = subst (λ os. Same default_openings os) (sym e) (λ o. (λ h. h, λ h. h))
 
 -- the lines of a reader at the start of a template under the default settings are the listing of that template
-module _ (t : List ℕ) (r : Reader) (passes : Ok tt ≡ open_told max_len t) (e : openings_of r.settings ≡ default_openings) (f : config r ≡ default_config) (g : view_of r ≡ opened t) where
+module _ (t : List ℕ) (r : Reader) (passes : Ok tt ≡ open_told max_listed t) (e : openings_of r.settings ≡ default_openings) (f : config r ≡ default_config) (g : view_of r ≡ opened t) where
   rows_same : joined (items_of (openings_of r.settings) (config r) (view_of r)) ≡ joined (pieces_in t)
   rows_same = ap (λ os. joined (items_of os (config r) (view_of r))) e ∙ ap (λ s. joined (items_of default_openings s (view_of r))) f ∙ ap (λ v. joined (items_of default_openings default_config v)) g
 

@@ -17,8 +17,8 @@ use Rattle.listings.specs.declared.row.Row.{Row}
 use Rattle.listings.specs.Rows.{joined, row_text}
 
 -- the greatest number of bytes that a template may have to be listed
-abbrev pub max_len : ℕ
-max_len = 65536
+abbrev pub max_listed : ℕ
+max_listed = 65536
 
 -- a space and a byte's offset, where there is one
 abbrev pub byte_text : Option ℕ → List ℕ
@@ -60,4 +60,4 @@ ending_in t = ending_of default_openings default_config (opened t)
 
 -- the listing of a template
 abbrev pub listing : List ℕ → List ℕ
-listing t = elim (open_told max_len t) [ Err r ↦ refusal_line r | Ok u ↦ lines first_place (joined (pieces_in t)) (ending_in t) ]
+listing t = elim (open_told max_listed t) [ Err r ↦ refusal_line r | Ok u ↦ lines first_place (joined (pieces_in t)) (ending_in t) ]

@@ -14,7 +14,7 @@ ghost use Rattle.rules.specs.declared.LexerState.TheVariants.{Template};
 ghost use Rattle.reader.specs.Faults.{told, tells};
 ghost use Rattle.reader.specs.Opens.{open_told, Opened};
 ghost use Rattle.listings.specs.Examples.{ExamplesHold};
-ghost use Rattle.listings.specs.Listing.{max_len, lines, end_line, fault_line, refusal_line, pieces_in, listing};
+ghost use Rattle.listings.specs.Listing.{max_listed, lines, end_line, fault_line, refusal_line, pieces_in, listing};
 ghost use Rattle.listings.specs.Rows.{joined, Joins};
 
 use finders::DefaultFinder;
@@ -44,7 +44,7 @@ fn default_settings() -> Settings
 
 // Opens a template that is to be listed: refused where it has too many bytes, then where it is not UTF-8.
 fn open<'t>(settings: &Settings, template: &'t [u8]) -> Result<Reader<'t>, OpenFault>
-    ensures told { tells result ≡ open_told max_len template.now }
+    ensures told { tells result ≡ open_told max_listed template.now }
     ensures opened { IfOk result (λ r. Opened settings.now Template template.now r) }
 {
     if template.len() > MAX_LEN {

@@ -2,9 +2,9 @@
 
 #![tactic(auto)]
 
-pub mod fault;
-pub mod kind;
-pub mod piece;
+mod fault;
+mod kind;
+mod piece;
 
 pub use fault::{FaultKind, ReadFault};
 pub use kind::{Kind, Operator};

@@ -7,7 +7,7 @@ use Rattle.places.specs.Places.{beyond}
 use Rattle.pieces.specs.declared.fault.ReadFault.{ReadFault}
 use Rattle.pieces.specs.declared.piece.Piece.{Piece}
 use Rattle.rules.specs.Config.{Config, Ended}
-use Rattle.rules.specs.Reading.{Part, Stop, Call, Gives, Stops, act, call, Parts, first, only, go_on, measure, meaning}
+use Rattle.rules.specs.Reading.{Part, Stop, Outcome, Gives, Stops, act, call, Parts, first, only, go_on, measure, meaning}
 use Rattle.rules.specs.Told.{placed, pieces, behind, ended, ending}
 use Rattle.rules.specs.Texts.{Same}
 use Rattle.rules.proofs.Fuel.{FineAt, Steps, call_steps, meaning_step}
@@ -41,7 +41,7 @@ falls_told (Ok u) m n h = h
 falls_told (Err t) m n h = h
 
 module _ (os : List Opening) (s : Config) (v : View) where
-  tells_by : (r : Call) → meaning os s v.core ≡ go_on (meaning os s) r
+  tells_by : (r : Outcome) → meaning os s v.core ≡ go_on (meaning os s) r
       → Next (pieces v.place (meaning os s v.core).parts) (ending v.place (meaning os s v.core)) (tell_by v r).answer (items_of os s (tell_by v r).after) (ending_of os s (tell_by v r).after)
   tells_by (Gives p d) e = (
     ap (λ x. pieces v.place x.parts) e ∙ pieces_first v.place p (meaning os s d),
@@ -52,7 +52,7 @@ module _ (os : List Opening) (s : Config) (v : View) where
       let b = sym (ap (ending v.place) e ∙ ending_none v.place q) in
       next_told (ended v.place q) (ending v.place (meaning os s v.core)) (ended v.place q) (pieces v.place (meaning os s v.core).parts) [] a (sym b) refl b
 
-  falls_by : (r : Call) → Steps v.core r → Falls (suc (measure v.core)) (tell_by v r).answer (left_of (tell_by v r).after)
+  falls_by : (r : Outcome) → Steps v.core r → Falls (suc (measure v.core)) (tell_by v r).answer (left_of (tell_by v r).after)
   falls_by (Gives p d) h = omega (arith, h.0)
   falls_by (Stops q) h = falls_told (ended v.place q) (suc (measure v.core)) 0 (omega arith)
 

@@ -33,7 +33,7 @@ failed (Some (Err f)) = true
 
 -- a resting point: in text, with nothing waiting, no fault and no cut told, and no byte behind since the last LF
 abbrev pub rests : View → Bool
-rests v = in_text v.core.state && nothing_waits v.core.pending && not (failed v.told) && not v.core.ended && is_empty v.core.behind
+rests v = in_text v.core.state && nothing_waits v.core.pending && not (failed v.told) && not v.core.cut_told && is_empty v.core.behind
 
 -- the place i of t is byte 0, or right behind an LF
 abbrev pub AtFront : List ℕ → ℕ → Type 0

@@ -12,7 +12,7 @@ use Rattle.rules.specs.declared.Step.{Step}
 use Rattle.rules.specs.declared.Fault.{Fault}
 use Rattle.rules.specs.Config.{Config, config_of}
 use Rattle.rules.specs.At.{core_at, place_at}
-use Rattle.rules.specs.Reading.{Call, Gives, Stops, call, measure, meaning, starting, balance_at}
+use Rattle.rules.specs.Reading.{Outcome, Gives, Stops, call, measure, meaning, starting, balance_at}
 use Rattle.rules.specs.Shapes.{Fits}
 use Rattle.rules.specs.State.{Core, Verdict}
 use Rattle.rules.specs.Told.{placed, pieces, ended, ending, fault_span}
@@ -85,7 +85,7 @@ pub record Told : Type 0 where
   pub after : View
 
 -- a piece is told at its place, and an ending is told and kept
-abbrev pub tell_by : View → Call → Told
+abbrev pub tell_by : View → Outcome → Told
 tell_by v (Gives p d) = record {
   answer = Ok (Some (placed v.place p));
   after = record { core = d; place = beyond p.bytes v.place; balance = balance_at v.balance d.state; told = None };

@@ -2,10 +2,10 @@
 
 #![tactic(auto)]
 
-pub mod fault;
+mod fault;
 mod range;
-pub mod recorded;
-pub mod token;
+mod recorded;
+mod token;
 
 pub use fault::RecordFault;
 pub use recorded::Recorded;

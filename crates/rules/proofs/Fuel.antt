@@ -3,7 +3,7 @@ use Rattle.std.proofs.Common.{◌≡◌, ℕ, zero, suc, ◌<◌, List, [], ◌�
 use Rattle.std.proofs.lemmas.List.{length-drop}
 use Rattle.finder.specs.Finding.{Opening}
 use Rattle.rules.specs.Config.{Config, Ended}
-use Rattle.rules.specs.Reading.{Unread, Call, Gives, Stops, finish, act, call, Parts, first, only, go_on, reading, cut_rank, measure, meaning}
+use Rattle.rules.specs.Reading.{Unread, Outcome, Gives, Stops, finish, act, call, Parts, first, only, go_on, reading, cut_rank, measure, meaning}
 use Rattle.rules.specs.Shapes.{Fits}
 use Rattle.rules.specs.State.{Core, Verdict}
 use Rattle.rules.specs.Texts.{verdict}
@@ -15,7 +15,7 @@ abbrev pub FineAt : Core → Type 0
 FineAt c = Fine (length c.ahead) c.pending
 
 -- a call leads to a state from which fewer pieces can come
-abbrev pub Steps : Core → Call → Type 0
+abbrev pub Steps : Core → Outcome → Type 0
 Steps c (Gives p d) = (measure d < measure c) × FineAt d
 Steps c (Stops e) = Unit {0}
 
@@ -33,7 +33,7 @@ act_steps c (Ok None) f h = finish_steps c c.cut refl f
 act_steps c (Err q) f h = tt
 
 -- two ways to go on that agree on what is smaller
-alike : (F G : Core → Parts) (c : Core) → ((e : Core) → measure e < measure c → FineAt e → F e ≡ G e) → (r : Call) → Steps c r → go_on F r ≡ go_on G r
+alike : (F G : Core → Parts) (c : Core) → ((e : Core) → measure e < measure c → FineAt e → F e ≡ G e) → (r : Outcome) → Steps c r → go_on F r ≡ go_on G r
 alike F G c h (Gives p d) s = ap (first p) (h d s.0 s.1)
 alike F G c h (Stops e) s = refl
 
@@ -41,7 +41,7 @@ reading_more : (n : ℕ) (os : List Opening) (s : Config) (c : Core) → reading
 unfolding reading
 reading_more n os s c = by (call os s c)
   where
-    by : (r : Call) → elim r [ Gives p d ↦ first p (reading n os s d) | Stops e ↦ only e ] ≡ go_on (reading n os s) r
+    by : (r : Outcome) → elim r [ Gives p d ↦ first p (reading n os s d) | Stops e ↦ only e ] ≡ go_on (reading n os s) r
     by (Gives p d) = refl
     by (Stops e) = refl
 

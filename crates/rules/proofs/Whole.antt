@@ -45,16 +45,16 @@ module _ (t : List ℕ) (n i : ℕ) (m : LexerState) (w : Pending) (e : Bool) wh
   -- a piece is taken off
   pub act_piece : (p : Step) → i + p.len ≤ n → act (core_at t n i m w e) (Ok (Some p)) ≡ Gives (part_at t i p) (core_at t n (i + p.len) p.state p.pending e)
   act_piece p h =
-      ap (λ l. Gives (record { kind = p.kind; bytes = l; from = p.from; to = p.to; value = p.value }) (record { behind = pushes (take p.len (drop i (take n t))) (behind_at t i); ahead = drop p.len (drop i (take n t)); cut = drop n t; state = p.state; pending = p.pending; ended = e })) (part_of t n i p.len h)
-      ∙ ap (λ l. Gives (part_at t i p) (record { behind = l; ahead = drop p.len (drop i (take n t)); cut = drop n t; state = p.state; pending = p.pending; ended = e })) (behind_on p.len h)
-      ∙ ap (λ l. Gives (part_at t i p) (record { behind = behind_at t (i + p.len); ahead = l; cut = drop n t; state = p.state; pending = p.pending; ended = e })) (drop-drop p.len i (take n t))
+      ap (λ l. Gives (record { kind = p.kind; bytes = l; from = p.from; to = p.to; value = p.value }) (record { behind = pushes (take p.len (drop i (take n t))) (behind_at t i); ahead = drop p.len (drop i (take n t)); cut = drop n t; state = p.state; pending = p.pending; cut_told = e })) (part_of t n i p.len h)
+      ∙ ap (λ l. Gives (part_at t i p) (record { behind = l; ahead = drop p.len (drop i (take n t)); cut = drop n t; state = p.state; pending = p.pending; cut_told = e })) (behind_on p.len h)
+      ∙ ap (λ l. Gives (part_at t i p) (record { behind = behind_at t (i + p.len); ahead = l; cut = drop n t; state = p.state; pending = p.pending; cut_told = e })) (drop-drop p.len i (take n t))
 
   finish_none : (xs : List ℕ) → length xs ≡ 0 → (c : Core) → finish c xs ≡ Stops Done
   finish_none [] h c = refl
   finish_none (x ∷ xs) h c = absurd (omega arith)
 
   finish_some : (xs : List ℕ) → 0 < length xs → (c : Core)
-      → finish c xs ≡ Gives (record { kind = Cut; bytes = xs; from = 0; to = length xs; value = None }) (record { behind = pushes xs c.behind; ahead = c.ahead; cut = []; state = c.state; pending = c.pending; ended = true })
+      → finish c xs ≡ Gives (record { kind = Cut; bytes = xs; from = 0; to = length xs; value = None }) (record { behind = pushes xs c.behind; ahead = c.ahead; cut = []; state = c.state; pending = c.pending; cut_told = true })
   finish_some [] h c = absurd (omega arith)
   finish_some (x ∷ xs) h c = refl
 
@@ -66,14 +66,14 @@ module _ (t : List ℕ) (n i : ℕ) (m : LexerState) (w : Pending) (e : Bool) wh
   all_behind h =
       ap (λ k. pushes (drop n t) (behind_at t k)) h ∙ sym (pushes_append (take n t) (drop n t) []) ∙ ap (λ l. pushes l []) (take-append-drop n t ∙ sym (take-length t))
 
-  cut_core : i ≡ n → ◌≡◌ {A = Core} (record { behind = pushes (drop n t) (behind_at t i); ahead = drop i (take n t); cut = []; state = m; pending = w; ended = true }) (core_at t (length t) (length t) m w true)
+  cut_core : i ≡ n → ◌≡◌ {A = Core} (record { behind = pushes (drop n t) (behind_at t i); ahead = drop i (take n t); cut = []; state = m; pending = w; cut_told = true }) (core_at t (length t) (length t) m w true)
   cut_core h =
       let a : drop i (take n t) ≡ [] = let l = length-take n t in drop_all i (take n t) (omega arith) in
       let b : drop (length t) (take (length t) t) ≡ [] = let l = length-take (length t) t in drop_all (length t) (take (length t) t) (omega arith) in
       let c : drop (length t) t ≡ [] = drop_all (length t) t (omega arith) in
-      ap (λ l. record { behind = l; ahead = drop i (take n t); cut = []; state = m; pending = w; ended = true }) (all_behind h)
-      ∙ ap (λ l. record { behind = behind_at t (length t); ahead = l; cut = []; state = m; pending = w; ended = true }) (a ∙ sym b)
-      ∙ ap (λ l. record { behind = behind_at t (length t); ahead = drop (length t) (take (length t) t); cut = l; state = m; pending = w; ended = true }) (sym c)
+      ap (λ l. record { behind = l; ahead = drop i (take n t); cut = []; state = m; pending = w; cut_told = true }) (all_behind h)
+      ∙ ap (λ l. record { behind = behind_at t (length t); ahead = l; cut = []; state = m; pending = w; cut_told = true }) (a ∙ sym b)
+      ∙ ap (λ l. record { behind = behind_at t (length t); ahead = drop (length t) (take (length t) t); cut = l; state = m; pending = w; cut_told = true }) (sym c)
 
   -- the cut is taken off
   pub act_cut : i ≡ n → n < length t → act (core_at t n i m w e) (Ok None) ≡ Gives (cut_part t n) (core_at t (length t) (length t) m w true)

@@ -12,7 +12,7 @@ use Rattle.rules.specs.State.{Core}
 
 -- the state at the place i of the template t, of which the first n bytes are left after the cut; once the cut was told, all are
 abbrev pub core_at : List ℕ → ℕ → ℕ → LexerState → Pending → Bool → Core
-core_at t n i m w e = record { behind = behind_at t i; ahead = drop i (take n t); cut = drop n t; state = m; pending = w; ended = e }
+core_at t n i m w e = record { behind = behind_at t i; ahead = drop i (take n t); cut = drop n t; state = m; pending = w; cut_told = e }
 
 -- the line, column and offset of the place i, without a cap
 abbrev pub place_at : List ℕ → ℕ → Place

@@ -30,27 +30,27 @@ pub data Stop : Type 0 where
   Unread : Stop
 
 -- what one call tells: a piece and the state behind it, or how the reading ends
-pub data Call : Type 0 where
-  Gives : Part → Core → Call
-  Stops : Stop → Call
+pub data Outcome : Type 0 where
+  Gives : Part → Core → Outcome
+  Stops : Stop → Outcome
 
 -- with nothing left the cut is told, if there is one, and then that the reading is finished
-abbrev pub finish : Core → List ℕ → Call
+abbrev pub finish : Core → List ℕ → Outcome
 finish c [] = Stops Done
 finish c (x ∷ xs) =
     Gives (record { kind = Cut; bytes = x ∷ xs; from = 0; to = length (x ∷ xs); value = None })
-    (record { behind = pushes (x ∷ xs) c.behind; ahead = c.ahead; cut = []; state = c.state; pending = c.pending; ended = true })
+    (record { behind = pushes (x ∷ xs) c.behind; ahead = c.ahead; cut = []; state = c.state; pending = c.pending; cut_told = true })
 
 -- a piece takes its bytes off those ahead
-abbrev pub act : Core → Verdict → Call
+abbrev pub act : Core → Verdict → Outcome
 act c (Ok (Some p)) =
     Gives (record { kind = p.kind; bytes = take p.len c.ahead; from = p.from; to = p.to; value = p.value })
-    (record { behind = pushes (take p.len c.ahead) c.behind; ahead = drop p.len c.ahead; cut = c.cut; state = p.state; pending = p.pending; ended = c.ended })
+    (record { behind = pushes (take p.len c.ahead) c.behind; ahead = drop p.len c.ahead; cut = c.cut; state = p.state; pending = p.pending; cut_told = c.cut_told })
 act c (Ok None) = finish c c.cut
 act c (Err f) = Stops (Failing f.kind (take f.distance c.ahead))
 
 -- next
-abbrev pub call : List Opening → Config → Core → Call
+abbrev pub call : List Opening → Config → Core → Outcome
 call os s c = act c (verdict os s c)
 
 -- the pieces still to come and how the reading ends
@@ -67,7 +67,7 @@ abbrev pub only : Stop → Parts
 only e = record { parts = []; stop = e }
 
 -- what a call tells, and then what the rest tells
-abbrev pub go_on : (Core → Parts) → Call → Parts
+abbrev pub go_on : (Core → Parts) → Outcome → Parts
 go_on go (Gives p d) = first p (go d)
 go_on go (Stops e) = only e
 
@@ -128,7 +128,7 @@ left_len s t = elim s.keep_trailing [ true ↦ length t | false ↦ length (chop
 
 -- the state at the start of a template, or of an expression
 abbrev pub starting : Config → LexerState → List ℕ → Core
-starting s m t = record { behind = []; ahead = take (left_len s t) t; cut = drop (left_len s t) t; state = m; pending = Nothing; ended = false }
+starting s m t = record { behind = []; ahead = take (left_len s t) t; cut = drop (left_len s t) t; state = m; pending = Nothing; cut_told = false }
 
 -- an expression starts inside a variable
 abbrev pub in_expression : LexerState

@@ -17,7 +17,7 @@ pub record Core : Type 0 where
   pub cut : List ℕ
   pub state : LexerState
   pub pending : Pending
-  pub ended : Bool
+  pub cut_told : Bool
 
 -- what the rules say of the bytes ahead: a piece, that none are left, or what is wrong
 abbrev pub Verdict : Type 0

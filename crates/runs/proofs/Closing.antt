@@ -94,7 +94,7 @@ finishes v (x ∷ xs) h k =
     let c : Core = v.core in
     let e = stays c.state c.pending c.ahead v.balance k in
     gives v (record { kind = Cut; bytes = x ∷ xs; from = 0; to = length (x ∷ xs); value = None })
-    (record { behind = pushes (x ∷ xs) c.behind; ahead = c.ahead; cut = []; state = c.state; pending = c.pending; ended = true })
+    (record { behind = pushes (x ∷ xs) c.behind; ahead = c.ahead; cut = []; state = c.state; pending = c.pending; cut_told = true })
     h
     (e ∙ sym (+ℤ_idr v.balance))
     (subst (Balanced c.state c.pending c.ahead) (sym e) k)
@@ -103,7 +103,7 @@ acts : (v : View) (x : Verdict) → Weighs v.core.ahead v.balance x → v.told �
 acts v (Ok (Some p)) g h k =
     let c : Core = v.core in
     gives v (record { kind = p.kind; bytes = take p.len c.ahead; from = p.from; to = p.to; value = p.value })
-    (record { behind = pushes (take p.len c.ahead) c.behind; ahead = drop p.len c.ahead; cut = c.cut; state = p.state; pending = p.pending; ended = c.ended })
+    (record { behind = pushes (take p.len c.ahead) c.behind; ahead = drop p.len c.ahead; cut = c.cut; state = p.state; pending = p.pending; cut_told = c.cut_told })
     h
     g.0
     g.1

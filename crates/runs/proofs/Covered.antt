@@ -11,7 +11,7 @@ use Rattle.rules.specs.declared.LexerState.{LexerState}
 use Rattle.rules.specs.declared.Pending.{Pending}
 use Rattle.rules.specs.declared.Pending.TheVariants.{Nothing}
 use Rattle.rules.specs.Config.{Config, Ended}
-use Rattle.rules.specs.Reading.{Call, Gives, Stops, call}
+use Rattle.rules.specs.Reading.{Outcome, Gives, Stops, call}
 use Rattle.rules.specs.Shapes.{level}
 use Rattle.rules.specs.Told.{ended}
 use Rattle.rules.proofs.Lawful.{Apart}
@@ -35,7 +35,7 @@ finish_told : (e : Ending ReadFault) → finishes (Told (told_as e)) ≡ true �
 finish_told (Ok u) h = refl
 finish_told (Err f) h = absurd (both_ways false refl h)
 
-finish_by : (v : View) (x : Call) → finishes (Told (tell_by v x).answer) ≡ true → (tell_by v x).after.told ≡ Some (Ok tt)
+finish_by : (v : View) (x : Outcome) → finishes (Told (tell_by v x).answer) ≡ true → (tell_by v x).after.told ≡ Some (Ok tt)
 finish_by v (Gives p d) h = absurd (both_ways false refl h)
 finish_by v (Stops e) h = ap Some (finish_told (ended v.place e) h)
 

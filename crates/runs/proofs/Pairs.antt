@@ -9,7 +9,7 @@ use Rattle.places.proofs.Advances.{beyond_offset}
 use Rattle.pieces.specs.declared.fault.ReadFault.{ReadFault}
 use Rattle.pieces.specs.declared.piece.Piece.{Piece}
 use Rattle.rules.specs.Config.{Config, Ended}
-use Rattle.rules.specs.Reading.{Part, Parts, Stop, Done, Call, Gives, Stops, call, first, only, reading, measure, meaning}
+use Rattle.rules.specs.Reading.{Part, Parts, Stop, Done, Outcome, Gives, Stops, call, first, only, reading, measure, meaning}
 use Rattle.rules.specs.State.{Core}
 use Rattle.rules.specs.Told.{placed, pieces, behind, ended, ending}
 use Rattle.rules.proofs.Lawful.{Apart as Distinct}
@@ -116,7 +116,7 @@ module _ (os : List Opening) (s : Config) (ends : Ended s) (apart : Distinct os)
     ends_tell (Err f) (Ok y) h = absurd h
     ends_tell (Err f) (Err g) h = faults_agree false d f g h
 
-    by_call : (v w : View) (h : Pair v w) (r : Call) → Leads t h.here.at (tell_by v r) → Leads u h.there.at (tell_by w r) → BothTell (tell_by v r) (tell_by w r)
+    by_call : (v w : View) (h : Pair v w) (r : Outcome) → Leads t h.here.at (tell_by v r) → Leads u h.there.at (tell_by w r) → BothTell (tell_by v r) (tell_by w r)
     by_call v w h (Gives p c) a b = (items_agree false d (item_in t (placed v.place p)) (item_in u (placed w.place p)) (gives_item v w h p c a b), gives_pair v w h p c a b, tt)
     by_call v w h (Stops e) a b =
         let k = ended_apart d e v.place w.place h.level in
@@ -186,7 +186,7 @@ module _ (os : List Opening) (s : Config) (ends : Ended s) (apart : Distinct os)
 
     same_rests : (v w : View) → Both v w → rests v ≡ rests w
     same_rests v w h =
-        let f : Core → Bool → Bool = λ c b. in_text c.state && nothing_waits c.pending && not b && not c.ended && is_empty c.behind in
+        let f : Core → Bool → Bool = λ c b. in_text c.state && nothing_waits c.pending && not b && not c.cut_told && is_empty c.behind in
         ap (λ c. f c (failed v.told)) h.0.core ∙ ap (f w.core) (same_failed v w v.told w.told h.1)
 
     both_call : (c : Asked) → LawfulCall os c → (v w : View) → Both v w → RepliesAgree d t u (reply s v c) (reply s w c) × Pair (behind_call s v c) (behind_call s w c) × TellsApart (behind_call s v c) (behind_call s w c) (behind_call s v c).told (behind_call s w c).told
@@ -208,7 +208,7 @@ module _ (os : List Opening) (s : Config) (ends : Ended s) (apart : Distinct os)
     abbrev Reads : ℕ → List ℕ → View → Meaning Item
     Reads n t v = record { items = map (item_in t) (pieces v.place (reading n os s v.core).parts); ending = ending v.place (reading n os s v.core) }
 
-    abbrev Goes : ℕ → List ℕ → View → Call → Meaning Item
+    abbrev Goes : ℕ → List ℕ → View → Outcome → Meaning Item
     Goes n t v r = record {
       items = map (item_in t) (pieces v.place (elim r as (λ _. Parts) [ Gives p c ↦ first p (reading n os s c) | Stops e ↦ only e ]).parts);
       ending = ending v.place (elim r as (λ _. Parts) [ Gives p c ↦ first p (reading n os s c) | Stops e ↦ only e ]);
@@ -221,7 +221,7 @@ module _ (os : List Opening) (s : Config) (ends : Ended s) (apart : Distinct os)
         subst (λ c. MeaningsApart false d (Goes n t v (call os s v.core)) (Goes n u w (call os s c))) h.core
         (goes (call os s v.core) (λ x y k. reads_apart n x y k) (leads_here v w h a) (leads_there v w h b))
       where
-        goes : (r : Call) → ((x y : View) → Pair x y → x.told ≡ None → y.told ≡ None → MeaningsApart false d (Reads n t x) (Reads n u y))
+        goes : (r : Outcome) → ((x y : View) → Pair x y → x.told ≡ None → y.told ≡ None → MeaningsApart false d (Reads n t x) (Reads n u y))
             → Leads t h.here.at (tell_by v r) → Leads u h.there.at (tell_by w r) → MeaningsApart false d (Goes n t v r) (Goes n u w r)
         goes (Gives p c) ih x y =
             let k = ih (tell_by v (Gives p c)).after (tell_by w (Gives p c)).after (gives_pair v w h p c x y) refl refl in

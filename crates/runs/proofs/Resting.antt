@@ -15,7 +15,7 @@ use Rattle.rules.proofs.Lawful.{Apart as Distinct}
 use Rattle.reader.specs.Views.{View}
 use Rattle.reader.specs.Rests.{failed}
 use Rattle.runs.specs.Piles.{pile_over, of_items, has_shift, meaning_of}
-use Rattle.runs.specs.Resting.{Amounts, Run, left_at, Resting}
+use Rattle.runs.specs.Resting.{Amounts, Run, behind_run, Resting}
 use Rattle.runs.proofs.Covered.{reached_run}
 use Rattle.runs.proofs.Splits.{AtRest, at_rest, core_rest, offset_at, rest_within, rest_ahead, rest_cut, rest_column, same_core}
 use Rattle.runs.proofs.Pairs.{Stands, TellsApart, Both, replies_agree, meanings_apart}
@@ -23,7 +23,7 @@ use Rattle.runs.proofs.Piles.{pile_apart, calls_agree}
 use Rattle.runs.proofs.Bare.{texts_of}
 
 -- in text with nothing ahead and nothing cut a reading is finished
-none_done : (os : List Opening) (s : Config) → call os s (record { behind = []; ahead = []; cut = []; state = Template; pending = Nothing; ended = false }) ≡ Stops Done
+none_done : (os : List Opening) (s : Config) → call os s (record { behind = []; ahead = []; cut = []; state = Template; pending = Nothing; cut_told = false }) ≡ Stops Done
 unfolding text_verdict text
 none_done os s = refl
 
@@ -35,9 +35,9 @@ done_here os s t v r a e =
     let x : v.core.ahead ≡ [] = rest_ahead os s t v r a ∙ drop_all r.at (take (left_len s t) t) (omega arith) in
     let y : v.core.cut ≡ [] = rest_cut os s t v r a ∙ drop_all (left_len s t) t (omega arith) in
     ap (call os s)
-    (core_rest v.core a.behind a.state a.pending a.unended
-    ∙ ap (λ z. record { behind = []; ahead = z; cut = v.core.cut; state = Template; pending = Nothing; ended = false }) x
-    ∙ ap (λ z. record { behind = []; ahead = []; cut = z; state = Template; pending = Nothing; ended = false }) y)
+    (core_rest v.core a.behind a.state a.pending a.cut_untold
+    ∙ ap (λ z. record { behind = []; ahead = z; cut = v.core.cut; state = Template; pending = Nothing; cut_told = false }) x
+    ∙ ap (λ z. record { behind = []; ahead = []; cut = z; state = Template; pending = Nothing; cut_told = false }) y)
     ∙ none_done os s
 
 module _ (os : List Opening) (s : Config) (ends : Ended s) (apart : Distinct os) (t u : List ℕ) (small : length t ≤ 16777216) (other_small : length u ≤ 16777216) (v w : View) (r : Stands os s t v) (q : Stands os s u w) (a : AtRest v) (b : AtRest w) where
@@ -76,8 +76,8 @@ pub resting_runs : (os : List Opening) (s : Config) → Ended s → Distinct os 
 resting_runs os s ends apart r q h k small other_small b =
     let t : List ℕ = r.template in
     let u : List ℕ = q.template in
-    let v : View = left_at s r in
-    let w : View = left_at s q in
+    let v : View = behind_run s r in
+    let w : View = behind_run s q in
     let x : Stands os s t v = reached_run os s t ends apart small r.state h r.calls b.lawful in
     let y : Stands os s u w = reached_run os s u ends apart other_small q.state k q.calls b.other_lawful in
     let f : AtRest v = at_rest v b.here in

@@ -99,7 +99,7 @@ pub record AtRest (v : View) : Type 0 where
   pub state : v.core.state ≡ Template
   pub pending : v.core.pending ≡ Nothing
   pub unfailed : failed v.told ≡ false
-  pub unended : v.core.ended ≡ false
+  pub cut_untold : v.core.cut_told ≡ false
   pub behind : v.core.behind ≡ []
 
 is_template : (m : LexerState) → in_text m ≡ true → m ≡ Template
@@ -125,23 +125,23 @@ is_none (x ∷ xs) h = absurd (let z = eqb-true (length (x ∷ xs)) 0 h in omega
 
 pub at_rest : (v : View) → rests v ≡ true → AtRest v
 at_rest v h =
-    let a = and_parts (in_text v.core.state && nothing_waits v.core.pending && not (failed v.told) && not v.core.ended) (is_empty v.core.behind) h in
-    let b = and_parts (in_text v.core.state && nothing_waits v.core.pending && not (failed v.told)) (not v.core.ended) a.0 in
+    let a = and_parts (in_text v.core.state && nothing_waits v.core.pending && not (failed v.told) && not v.core.cut_told) (is_empty v.core.behind) h in
+    let b = and_parts (in_text v.core.state && nothing_waits v.core.pending && not (failed v.told)) (not v.core.cut_told) a.0 in
     let c = and_parts (in_text v.core.state && nothing_waits v.core.pending) (not (failed v.told)) b.0 in
     let d = and_parts (in_text v.core.state) (nothing_waits v.core.pending) c.0 in
     record {
       state = is_template v.core.state d.0;
       pending = is_nothing v.core.pending d.1;
       unfailed = is_false (failed v.told) c.1;
-      unended = is_false v.core.ended b.1;
+      cut_untold = is_false v.core.cut_told b.1;
       behind = is_none v.core.behind a.1;
     }
 
-pub core_rest : (c : Core) → c.behind ≡ [] → c.state ≡ Template → c.pending ≡ Nothing → c.ended ≡ false
-    → ◌≡◌ {A = Core} c (record { behind = []; ahead = c.ahead; cut = c.cut; state = Template; pending = Nothing; ended = false })
+pub core_rest : (c : Core) → c.behind ≡ [] → c.state ≡ Template → c.pending ≡ Nothing → c.cut_told ≡ false
+    → ◌≡◌ {A = Core} c (record { behind = []; ahead = c.ahead; cut = c.cut; state = Template; pending = Nothing; cut_told = false })
 core_rest c b m w e =
-    let f : List ℕ → LexerState → Pending → Bool → Core = λ x y z o. record { behind = x; ahead = c.ahead; cut = c.cut; state = y; pending = z; ended = o } in
-    ap (λ x. f x c.state c.pending c.ended) b ∙ ap (λ y. f [] y c.pending c.ended) m ∙ ap (λ z. f [] Template z c.ended) w ∙ ap (f [] Template Nothing) e
+    let f : List ℕ → LexerState → Pending → Bool → Core = λ x y z o. record { behind = x; ahead = c.ahead; cut = c.cut; state = y; pending = z; cut_told = o } in
+    ap (λ x. f x c.state c.pending c.cut_told) b ∙ ap (λ y. f [] y c.pending c.cut_told) m ∙ ap (λ z. f [] Template z c.cut_told) w ∙ ap (f [] Template Nothing) e
 
 -- a view that a run can reach stands where its place says
 pub offset_at : (os : List Opening) (s : Config) (t : List ℕ) (v : View) (r : Reached os s t Any AnyKind v) → v.place.offset ≡ r.at
@@ -153,7 +153,7 @@ offset_at os s t v r =
 -- where it rests the cut is ahead
 module _ (os : List Opening) (s : Config) (t : List ℕ) (v : View) (r : Reached os s t Any AnyKind v) (a : AtRest v) where
   uncut : r.cut_told ≡ false
-  uncut = sym (ap (λ c. c.ended) r.core) ∙ a.unended
+  uncut = sym (ap (λ c. c.cut_told) r.core) ∙ a.cut_untold
 
   now_left : left_now s t r.cut_told ≡ left_len s t
   now_left = ap (left_now s t) uncut
@@ -180,5 +180,5 @@ same_core os s t u v w r q a b e =
     let k = rest_within os s u w q b in
     let x : v.core.ahead ≡ w.core.ahead = rest_ahead os s t v r a ∙ same_ahead s t u r.at q.at h k e ∙ sym (rest_ahead os s u w q b) in
     let y : v.core.cut ≡ w.core.cut = rest_cut os s t v r a ∙ same_cut s t u r.at q.at h k e ∙ sym (rest_cut os s u w q b) in
-    let f : List ℕ → List ℕ → Core = λ l c. record { behind = []; ahead = l; cut = c; state = Template; pending = Nothing; ended = false } in
-    core_rest v.core a.behind a.state a.pending a.unended ∙ ap (λ l. f l v.core.cut) x ∙ ap (f w.core.ahead) y ∙ sym (core_rest w.core b.behind b.state b.pending b.unended)
+    let f : List ℕ → List ℕ → Core = λ l c. record { behind = []; ahead = l; cut = c; state = Template; pending = Nothing; cut_told = false } in
+    core_rest v.core a.behind a.state a.pending a.cut_untold ∙ ap (λ l. f l v.core.cut) x ∙ ap (f w.core.ahead) y ∙ sym (core_rest w.core b.behind b.state b.pending b.cut_untold)

@@ -92,23 +92,23 @@ pub record Run : Type 0 where
   pub calls : List Asked
 
 -- where it leaves the reader
-abbrev pub left_at : Config → Run → View
-left_at s r = behind_calls s (unread s r.state r.template) r.calls
+abbrev pub behind_run : Config → Run → View
+behind_run s r = behind_calls s (unread s r.state r.template) r.calls
 
 -- two runs under the same settings, each by lawful finders, that come to resting points with the same bytes behind them, the cut included
 pub record BothRest (os : List Opening) (s : Config) (r q : Run) : Type 0 where
   pub lawful : AllLawful os r.calls
   pub other_lawful : AllLawful os q.calls
-  pub here : rests (left_at s r) ≡ true
-  pub other_here : rests (left_at s q) ≡ true
-  pub same : drop (left_at s r).place.offset r.template ≡ drop (left_at s q).place.offset q.template
+  pub here : rests (behind_run s r) ≡ true
+  pub other_here : rests (behind_run s q) ≡ true
+  pub same : drop (behind_run s r).place.offset r.template ≡ drop (behind_run s q).place.offset q.template
 
 -- from there on both tell the same: the readers; and any two streams that mean the same pile of layers over them, whichever list of next and look is called on both
 abbrev pub Resting : List Opening → Config → Run → Run → Type 0
 Resting os s r q =
     BothRest os s r q → (d : Amounts)
-    × ((cs : List Asked) → AllLawful os cs → AllAgree (RepliesAgree d r.template q.template) (replies s (left_at s r) cs) (replies s (left_at s q) cs))
+    × ((cs : List Asked) → AllLawful os cs → AllAgree (RepliesAgree d r.template q.template) (replies s (behind_run s r) cs) (replies s (behind_run s q) cs))
     × ((ls : List Layer) (cs : List PileCall) (xs ys : List (Result (Option Piece) ReadFault))
-    → AllTold (pile_over of_pieces ls (reads os s (left_at s r))) cs xs → AllTold (pile_over of_pieces ls (reads os s (left_at s q))) cs ys
-    → (is : List Answer) × (js : List Answer) × WithTexts ls (meaning_of os s r.template (left_at s r)) cs xs is
-    × WithTexts ls (meaning_of os s q.template (left_at s q)) cs ys js × AllAgree (AnswersAgree (has_shift ls) d) is js)
+    → AllTold (pile_over of_pieces ls (reads os s (behind_run s r))) cs xs → AllTold (pile_over of_pieces ls (reads os s (behind_run s q))) cs ys
+    → (is : List Answer) × (js : List Answer) × WithTexts ls (meaning_of os s r.template (behind_run s r)) cs xs is
+    × WithTexts ls (meaning_of os s q.template (behind_run s q)) cs ys js × AllAgree (AnswersAgree (has_shift ls) d) is js)

@@ -2,7 +2,7 @@
 
 #![tactic(auto)]
 
-pub mod pile;
+mod pile;
 
 ghost use Rattle.std.specs.Prelude.{◌≡◌, ℕ, IfOk};
 ghost use Rattle.rules.specs.Config.{config_of};

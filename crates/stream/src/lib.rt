@@ -2,8 +2,8 @@
 
 #![tactic(auto)]
 
-pub mod look_ahead;
-pub mod stream;
+mod look_ahead;
+mod stream;
 
 pub use look_ahead::LookAhead;
 pub use stream::{Ending, Stream};

@@ -2,13 +2,13 @@
 
 #![tactic(auto)]
 
-pub mod delimiter;
-pub mod draft;
-pub mod fault;
-pub mod name;
-pub mod settings;
+mod delimiter;
+mod draft;
+mod fault;
+mod name;
+mod settings;
 mod table;
-pub mod whitespace;
+mod whitespace;
 
 pub use delimiter::Delimiter;
 pub use draft::Draft;
