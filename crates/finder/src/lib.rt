@@ -29,7 +29,7 @@ impl StartMarker {
     ];
 
     // The marker's name.
-    pub fn name(self) -> &'static str
+    fn name(self) -> &'static str
         ensures { result.now ≡ marker_name self }
     {
         match self {

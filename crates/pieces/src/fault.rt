@@ -79,7 +79,7 @@ impl FaultKind {
     }
 
     // The fault's name.
-    pub fn name(self) -> &'static str
+    fn name(self) -> &'static str
         ensures { result.now ≡ fault_name self }
     {
         match self {

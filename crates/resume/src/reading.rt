@@ -7,14 +7,14 @@ use places::Place;
 use runs::Reply;
 
 // A template and what was told of it.
-#[derive(Clone, Copy, Debug)]
+#[derive(Clone, Copy)]
 pub(crate) struct Reading<'t> {
     pub(crate) template: &'t [u8],
     pub(crate) replies: &'t [Reply],
 }
 
 // How far two readings tell the same: so many pieces, with so many bytes of text, up to a place, and whether that is all.
-#[derive(Clone, Copy, Debug)]
+#[derive(Clone, Copy)]
 pub(crate) struct Shared {
     pub(crate) pieces: u64,
     pub(crate) bytes: u64,

@@ -7,7 +7,7 @@ use finder::{Finder, StartMarker};
 use finders::{DefaultFinder, StartMarkerMatcher};
 
 // One of the two finders that know the default openings.
-#[derive(Clone, Copy, Debug)]
+#[derive(Clone, Copy)]
 pub(crate) enum Seeker<'m> {
     Default,
     Matcher(&'m StartMarkerMatcher),
