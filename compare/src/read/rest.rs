@@ -67,10 +67,7 @@ impl Counts {
         match answer(&asked, Ways::RULES) {
             Answer::NotUtf8(byte) => {
                 self.refused += 1;
-                expect(
-                    printed,
-                    &format!("refused: not UTF-8 from byte {byte} on\n"),
-                )
+                expect(printed, &format!("refused 6 {byte}\n"))
             }
             Answer::Read(reading) => self.agreed(template, &reading, printed),
             other => Err(format!("is told as {other}")),
