@@ -21,7 +21,7 @@ abbrev pub nothing_waits : Pending → Bool
 nothing_waits Nothing = true
 nothing_waits Trim = false
 nothing_waits (Tail n) = false
-nothing_waits (Marker g m n) = false
+nothing_waits (Marker m g n) = false
 nothing_waits (RawBody g) = false
 nothing_waits (RawClose n g) = false
 

@@ -257,7 +257,7 @@ module _ (s : Config) where
     waiting_sound behind xs Nothing = text_sound behind xs
     waiting_sound behind xs Trim = trimmed_sound behind xs (white_run (white s) xs)
     waiting_sound behind xs (Tail n) = tt
-    waiting_sound behind xs (Marker g m n) = gap_sound g m n xs
+    waiting_sound behind xs (Marker m g n) = gap_sound g m n xs
     waiting_sound behind xs (RawBody g) = raw_by_sound g behind xs (find_closer s xs)
     waiting_sound behind xs (RawClose n g) = tt
 

@@ -71,7 +71,7 @@ module _ (ps : List Opening) (apart : Apart ps) where
   same_waiting os h s behind xs Nothing = same_text os h s behind xs
   same_waiting os h s behind xs Trim = same_trimmed os h s behind xs (white_run (white s) xs)
   same_waiting os h s behind xs (Tail n) = refl
-  same_waiting os h s behind xs (Marker g m n) = refl
+  same_waiting os h s behind xs (Marker m g n) = refl
   same_waiting os h s behind xs (RawBody g) = refl
   same_waiting os h s behind xs (RawClose n g) = refl
 

@@ -242,7 +242,7 @@ module _ (s : Config) (os : List Opening) where
   waiting_fits behind xs Nothing f = text_fits s Nothing os behind xs
   waiting_fits behind xs Trim f = trimmed_fits s Trim os behind xs (white_run (white s) xs) (white_le (white s) xs)
   waiting_fits behind xs (Tail n) f = record { ahead = omega (arith, f.1); lively = omega arith; ordered = omega arith; inside = omega arith; falls = omega (arith, f.0); level = omega arith }
-  waiting_fits behind xs (Marker g m n) f = gap_fits s (Marker g m n) g m n xs f.0 f.1
+  waiting_fits behind xs (Marker m g n) f = gap_fits s (Marker m g n) g m n xs f.0 f.1
   waiting_fits behind xs (RawBody g) f = raw_fits s g behind xs
   waiting_fits behind xs (RawClose n g) f = tailed s g Rattle.pieces.specs.declared.kind.Kind.TheVariants.RawClose n xs Template (RawClose n g) f.0 f.1
 

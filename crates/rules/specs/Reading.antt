@@ -83,7 +83,7 @@ abbrev pub wait_rank : Pending → ℕ
 wait_rank Nothing = 0
 wait_rank Trim = 0
 wait_rank (Tail n) = 0
-wait_rank (Marker g m n) = 0
+wait_rank (Marker m g n) = 0
 wait_rank (RawBody g) = 1
 wait_rank (RawClose n g) = 0
 

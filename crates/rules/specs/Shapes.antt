@@ -18,7 +18,7 @@ abbrev pub held : Pending → ℕ
 held Nothing = 0
 held Trim = 0
 held (Tail n) = n
-held (Marker g m n) = g + n
+held (Marker m g n) = g + n
 held (RawBody g) = 0
 held (RawClose n g) = n
 
@@ -28,7 +28,7 @@ abbrev pub least : Pending → ℕ
 least Nothing = 1
 least Trim = 1
 least (Tail n) = n
-least (Marker g m n) = n
+least (Marker m g n) = n
 least (RawBody g) = 1
 least (RawClose n g) = n
 

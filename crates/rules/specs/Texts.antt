@@ -178,12 +178,12 @@ opened s LineComment n xs = line_comment_here n xs
 -- so much white space before the opening, if any, is passed over
 abbrev pub gap_then : Config → ℕ → StartMarker → ℕ → List ℕ → Verdict
 gap_then s zero m n xs = opened s m n xs
-gap_then s (suc g) m n xs = plain White (suc g) Template (Marker 0 m n)
+gap_then s (suc g) m n xs = plain White (suc g) Template (Marker m 0 n)
 
 -- the text that is left before the opening, k of d bytes, if any
 abbrev pub lead_then : Config → ℕ → ℕ → StartMarker → ℕ → List ℕ → Verdict
 lead_then s zero d m n xs = gap_then s d m n xs
-lead_then s (suc k) d m n xs = plain Text (suc k) Template (Marker (d - suc k) m n)
+lead_then s (suc k) d m n xs = plain Text (suc k) Template (Marker m (d - suc k) n)
 
 -- the sign behind an opening; a line statement has none
 abbrev pub opening_sign : StartMarker → List ℕ → Whitespace
@@ -233,7 +233,7 @@ unfoldable pub text_verdict : List Opening → Config → List ℕ → List ℕ 
 text_verdict os s behind xs Nothing = text os s behind xs
 text_verdict os s behind xs Trim = trimmed os s behind xs (white_run (white s) xs)
 text_verdict os s behind xs (Tail n) = plain White n Template Nothing
-text_verdict os s behind xs (Marker g m n) = gap_then s g m n xs
+text_verdict os s behind xs (Marker m g n) = gap_then s g m n xs
 text_verdict os s behind xs (RawBody g) = raw_body s g behind xs
 text_verdict os s behind xs (Closing n g) = plain RawClose n Template (tail s g (drop n xs))
 

@@ -35,8 +35,8 @@ pub enum Pending {
     Trim,
     // so many bytes of a line end are to be passed over
     Tail(usize),
-    // so many bytes of white space, then an opening of so many bytes with its sign
-    Marker(usize, StartMarker, usize),
+    // an opening, which so many bytes of white space stand before, and which has so many bytes with its sign
+    Marker(StartMarker, usize, usize),
     // the body of a raw block whose tag has this sign at its end
     RawBody(Whitespace),
     // the tag that closes a raw block: its bytes, and the sign at its end

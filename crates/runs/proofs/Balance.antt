@@ -98,7 +98,7 @@ module _ (all : List ℕ) where
   waiting_weighs os s behind xs Nothing = text_weighs os s behind xs
   waiting_weighs os s behind xs Trim = trimmed_weighs os s behind xs (white_run (white s) xs)
   waiting_weighs os s behind xs (Tail n) = (refl, inl refl)
-  waiting_weighs os s behind xs (Marker g m n) = gap_weighs s g m n xs
+  waiting_weighs os s behind xs (Marker m g n) = gap_weighs s g m n xs
   waiting_weighs os s behind xs (RawBody g) = raw_weighs s g behind xs (find_closer s xs)
   waiting_weighs os s behind xs (RawClose n g) = (refl, inl refl)
 

@@ -24,7 +24,7 @@ abbrev pub WaitsAt : List Opening → Config → List ℕ → ℕ → Pending �
 WaitsAt os s u i Nothing = Unit {0}
 WaitsAt os s u i Trim = Unit {0}
 WaitsAt os s u i (Tail n) = line_end (drop i u) ≡ n
-WaitsAt os s u i (Marker g m n) = AllPass (white s) (take g (drop i u)) × OpensAt os m u (i + g) n
+WaitsAt os s u i (Marker m g n) = AllPass (white s) (take g (drop i u)) × OpensAt os m u (i + g) n
 WaitsAt os s u i (RawBody g) = (h : ℕ) × IsRawOpen os s u h i
 WaitsAt os s u i (RawClose n g) = (h : ℕ) × IsRawText os s u h i × (r : EndRaw) × Closes s u i r × (r.len ≡ n)
 

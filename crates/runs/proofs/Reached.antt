@@ -52,7 +52,7 @@ unfolding text_verdict text tag_verdict find_closer Rattle.rules.specs.Texts.raw
 none_alike os s b c Template Nothing = refl
 none_alike os s b c Template Trim = trimmed_alike os s b c (white_run (white s) [])
 none_alike os s b c Template (Tail n) = refl
-none_alike os s b c Template (Marker g m n) = refl
+none_alike os s b c Template (Marker m g n) = refl
 none_alike os s b c Template (RawBody g) = refl
 none_alike os s b c Template (RawClose n g) = refl
 none_alike os s b c (Inside k d) w = refl

@@ -111,7 +111,7 @@ is_nothing : (w : Pending) → nothing_waits w ≡ true → w ≡ Nothing
 is_nothing Nothing h = refl
 is_nothing Trim h = absurd (both_ways false refl h)
 is_nothing (Tail n) h = absurd (both_ways false refl h)
-is_nothing (Marker g m n) h = absurd (both_ways false refl h)
+is_nothing (Marker m g n) h = absurd (both_ways false refl h)
 is_nothing (RawBody g) h = absurd (both_ways false refl h)
 is_nothing (RawClose n g) h = absurd (both_ways false refl h)
 

@@ -84,17 +84,17 @@ module _ (os : List Opening) (s : Config) (t : List ℕ) where
           let l = subst (λ l. LongestRun in_line l a) (on n) (run_longest in_line (drop n xs)) in
           (tt, (n, m, a, l, b, line_told (drop (i + n + a) left) b (ap line_end (on (n + a) ∙ ap (λ j. drop j left) z)), omega arith), tt)
 
-      gap_holds : (g : ℕ) (m : StartMarker) (n : ℕ) → i + (g + n) ≤ left_len s t → WaitsAt os s left i (Marker g m n) → H (gap_then s g m n xs)
+      gap_holds : (g : ℕ) (m : StartMarker) (n : ℕ) → i + (g + n) ≤ left_len s t → WaitsAt os s left i (Marker m g n) → H (gap_then s g m n xs)
       gap_holds zero m n h w = let z : i + 0 ≡ i = omega arith in opened_holds m n (subst (λ j. OpensAt os m left j n) z w.1)
       gap_holds (suc g) m n h w =
           let z : i + suc g ≡ i + suc g + 0 = omega arith in
           (tt, white_named os s t i (suc g) (omega arith) w.0, (all_none (white s), subst (λ j. OpensAt os m left j n) z w.1))
 
-      lead_holds : (k d : ℕ) (m : StartMarker) (n : ℕ) → i + (d + n) ≤ left_len s t → k ≤ d → NoOpening os left i (i + d) → WaitsAt os s left (i + k) (Marker (d - k) m n) → H (lead_then s k d m n xs)
+      lead_holds : (k d : ℕ) (m : StartMarker) (n : ℕ) → i + (d + n) ≤ left_len s t → k ≤ d → NoOpening os left i (i + d) → WaitsAt os s left (i + k) (Marker m (d - k) n) → H (lead_then s k d m n xs)
       lead_holds zero d m n h l f w =
           let y : i + 0 ≡ i = omega arith in
           let z : d - 0 ≡ d = omega arith in
-          gap_holds d m n h (subst (λ j. WaitsAt os s left j (Marker d m n)) y (subst (λ g. WaitsAt os s left (i + 0) (Marker g m n)) z w))
+          gap_holds d m n h (subst (λ j. WaitsAt os s left j (Marker m d n)) y (subst (λ g. WaitsAt os s left (i + 0) (Marker m g n)) z w))
       lead_holds (suc k) d m n h l f w = (tt, (λ j o a b c q. f j o a (omega arith) c q), w)
 
       met_holds : (behind : List ℕ) (r : Option Triple) → Finds os left i r → H (met s behind xs r)
@@ -138,6 +138,6 @@ module _ (os : List Opening) (s : Config) (t : List ℕ) where
     waiting_holds a b Nothing h w = text_holds a (omega arith) (drop i left) refl
     waiting_holds a b Trim h w = trimmed_holds a (omega arith) (drop i left) refl (white_run (white s) (drop i left)) refl
     waiting_holds a b (Tail n) h w = (tt, white_named os s t i n h (subst (λ k. AllPass (white s) (take k (drop i left))) w (end_passes s b (drop i left))), tt)
-    waiting_holds a b (Marker g m n) h w = gap_holds (drop i left) refl g m n h w
+    waiting_holds a b (Marker m g n) h w = gap_holds (drop i left) refl g m n h w
     waiting_holds a b (RawBody g) h w = raw_holds (drop i left) refl g (behind_at t i) (find_closer s (drop i left)) (find_closer_le s (drop i left)) (find_first s (drop i left)) w.0 w.1
     waiting_holds a b (RawClose n g) h w = (tt, (w.0, w.1, w.2, w.3, closer_spelt_by s (drop i left) (Some w.2) (sym w.3), ap (λ k. i + k) (sym w.4)), tail_waits os s left (i + n) g (drop n (drop i left)) (drop-drop n i left))

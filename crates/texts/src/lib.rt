@@ -66,7 +66,7 @@ impl<'s> Opening<'s> {
                 Kind::White,
                 self.distance,
                 LexerState::Template,
-                Pending::Marker(0, self.marker, self.len),
+                Pending::Marker(self.marker, 0, self.len),
             ));
         }
         let start = Start {
@@ -88,7 +88,7 @@ impl<'s> Opening<'s> {
                 Kind::Text,
                 text,
                 LexerState::Template,
-                Pending::Marker(self.distance - text, self.marker, self.len),
+                Pending::Marker(self.marker, self.distance - text, self.len),
             )),
         }
     }
@@ -165,7 +165,7 @@ pub fn tokenize_root<F: Finder>(here: &Cursor, finder: &F, pending: Pending) -> 
             LexerState::Template,
             Pending::Nothing,
         ))),
-        Pending::Marker(distance, marker, len) => {
+        Pending::Marker(marker, distance, len) => {
             let opening = Opening {
                 here: *here,
                 distance,
