@@ -49,15 +49,15 @@ pub step_more : (xs : List ℕ) (x : ℕ) (p q r : Place) → q ≡ capped (beyo
 unfolding beyond
 step_more xs x p q r e f = f ∙ ap (λ t. capped (past x t)) e ∙ capped_past x (beyond xs p) ∙ ap capped (sym (beyond_append xs (x ∷ []) p))
 
-lf_yes : (x : ℕ) (xs : List ℕ) → is_lf x ≡ true → count_lf (x ∷ xs) ≡ suc (count_lf xs)
+pub lf_yes : (x : ℕ) (xs : List ℕ) → is_lf x ≡ true → count_lf (x ∷ xs) ≡ suc (count_lf xs)
 unfolding count_lf
 lf_yes x xs e = ap (λ t. elim t [ true ↦ suc (count_lf xs) | false ↦ count_lf xs ]) e
 
-lf_no : (x : ℕ) (xs : List ℕ) → is_lf x ≡ false → count_lf (x ∷ xs) ≡ count_lf xs
+pub lf_no : (x : ℕ) (xs : List ℕ) → is_lf x ≡ false → count_lf (x ∷ xs) ≡ count_lf xs
 unfolding count_lf
 lf_no x xs e = ap (λ t. elim t [ true ↦ suc (count_lf xs) | false ↦ count_lf xs ]) e
 
-since_some : (x : ℕ) (xs : List ℕ) → 0 < count_lf (x ∷ xs) → since_lf (x ∷ xs) ≡ since_lf xs
+pub since_some : (x : ℕ) (xs : List ℕ) → 0 < count_lf (x ∷ xs) → since_lf (x ∷ xs) ≡ since_lf xs
 unfolding since_lf
 since_some x xs h = ap (λ t. elim t [ true ↦ since_lf xs | false ↦ x ∷ xs ]) (lt-ltb 0 (count_lf (x ∷ xs)) h)
 

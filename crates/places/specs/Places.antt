@@ -1,5 +1,5 @@
 -- Where in a template a place lies: its line, its column and its offset.
-use Rattle.std.specs.Prelude.{ℕ, suc, ◌+◌, min, Bool, true, false, ◌&&◌, List, [], ◌∷◌, ◌++◌, length, ◌==◌, nat_le, nat_lt}
+use Rattle.std.specs.Prelude.{ℕ, suc, ◌+◌, min, Bool, true, false, not, ◌&&◌, List, [], ◌∷◌, ◌++◌, length, ◌==◌, nat_le, nat_lt}
 use Rattle.std.specs.Fmt.{decimal}
 use Rattle.places.specs.declared.Place.{Place}
 
@@ -22,6 +22,10 @@ is_lf b = b == 10
 -- the byte goes on with a character: 80 to BF hex
 abbrev pub goes_on : ℕ → Bool
 goes_on b = nat_le 128 b && nat_le b 191
+
+-- the byte is the first of a character
+abbrev pub is_lead : ℕ → Bool
+is_lead b = not (goes_on b)
 
 -- line 1, column 0, offset 0
 abbrev pub first_place : Place

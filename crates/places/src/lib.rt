@@ -6,6 +6,9 @@ ghost use Rattle.std.specs.Prelude.{◌≡◌, ℕ, Some, List, [], ◌++◌, le
 ghost use Rattle.std.proofs.Math.Utf8.{encodes};
 ghost use Rattle.places.specs.Places.{count_chars, first_place, past, beyond, capped, place_behind, place_text};
 
+mod counts;
+
+use counts::{Lead, Lf, add_u16, add_u32, count, since_lf};
 use std::fmt;
 
 // A place. A number that its type does not hold is told as the highest that it does.
@@ -59,13 +62,38 @@ impl Place {
         }
     }
 
+    // The place behind a few bytes: one after the other.
+    fn walk(self, bytes: &[u8]) -> Place
+        ensures { result ≡ capped (beyond bytes.now self) }
+    {
+        bytes.iter().fold(self, |place, b| place.step(*b))
+    }
+
+    // The place behind many bytes: LFs and characters are counted, 32 bytes at a time.
+    fn leap(self, bytes: &[u8]) -> Place
+        ensures { result ≡ capped (beyond bytes.now self) }
+    {
+        let lines = count::<Lf>(bytes);
+        let column = if lines == 0 { self.column } else { 0 };
+        Place {
+            line: add_u16(self.line, lines),
+            column: add_u16(column, count::<Lead>(since_lf(bytes))),
+            offset: add_u32(self.offset, bytes.len()),
+        }
+    }
+
     // The place behind `bytes`, which stand at this place.
+    #[tactic(auto, using(crate::proofs::Characters::counts_characters))]
     pub fn advance(self, bytes: &[u8]) -> Place
         ensures value { result ≡ capped (beyond bytes.now self) }
         ensures told { (xs : List ℕ) → self ≡ capped (place_behind xs) → result ≡ capped (place_behind (xs ++ bytes.now)) }
         ensures characters { (cs : List ℕ) → count_chars (encodes cs) ≡ length cs }
     {
-        bytes.iter().fold(self, |place, b| place.step(*b))
+        if bytes.len() < 32 {
+            self.walk(bytes)
+        } else {
+            self.leap(bytes)
+        }
     }
 }
 
