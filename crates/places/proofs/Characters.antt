@@ -5,7 +5,7 @@ use Rattle.std.proofs.lemmas.Bool.{cases_lt, lt-ltb, le-ltb, cond-true, cond-fal
 use Rattle.std.proofs.lemmas.Bool.Decides.{nat_tests}
 use Rattle.places.specs.Places.{goes_on, count_chars}
 
-count_lead : (b : ℕ) (xs : List ℕ) → goes_on b ≡ false → count_chars (b ∷ xs) ≡ suc (count_chars xs)
+pub count_lead : (b : ℕ) (xs : List ℕ) → goes_on b ≡ false → count_chars (b ∷ xs) ≡ suc (count_chars xs)
 unfolding count_chars
 count_lead b xs e = ap (λ t. elim t [ true ↦ count_chars xs | false ↦ suc (count_chars xs) ]) e
 

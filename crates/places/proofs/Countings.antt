@@ -1,5 +1,5 @@
 -- Counting bytes in chunks is counting them all, and what is counted is what a place tells.
-use Rattle.std.proofs.Common.{◌≡◌, ◌<◌, slice_index, ⊎_elim, ℕ, ◌%◌, ◌^◌, map, replicate, zero, suc, ◌+◌, ◌*◌, ◌<◌, ◌≤◌, Bool, true, false, not, cond, List, [], ◌∷◌, length, take, drop, get_or, count_by, nat_le, nat_lt, refl, sym, ap, ◌∙◌, w8, arith}
+use Rattle.std.proofs.Common.{◌≡◌, MatchBool, min, ◌<◌, slice_index, ⊎_elim, ℕ, ◌%◌, ◌^◌, map, replicate, zero, suc, ◌+◌, ◌*◌, ◌<◌, ◌≤◌, Bool, true, false, not, cond, List, [], ◌∷◌, length, take, drop, get_or, count_by, nat_le, nat_lt, refl, sym, ap, ◌∙◌, w8, arith}
 use Rattle.std.specs.Simd.{first_chunks}
 use lib.Seq.{take-add, drop-drop}
 use lib.Lanes.{top}
@@ -9,10 +9,12 @@ use Rattle.std.proofs.lemmas.Simd.{tops_compared, zip2_splat_left, mask_l-mod}
 use Rattle.std.proofs.lemmas.List.Sums.{sum_by-append, sum_by-cons}
 use Rattle.std.proofs.lemmas.List.Recursion.{is_count_by}
 use Rattle.std.proofs.lemmas.Bool.Decides.{nat_tests}
-use Rattle.std.proofs.lemmas.Bool.{cases_Bool, cases_lt}
+use Rattle.std.specs.List.{AllWithin, HoldsAt}
+use Rattle.std.proofs.lemmas.Bool.{cases_Bool, cases_lt, false≢true}
+use Rattle.places.proofs.Characters.{count_lead}
 use Rattle.places.specs.declared.Place.{Place}
-use Rattle.places.specs.Places.{is_lf, is_lead, goes_on, count_lf, count_chars, since_lf, beyond}
-use Rattle.places.proofs.Advances.{lf_yes, lf_no, since_some, since_none, beyond_column_some, beyond_column_none}
+use Rattle.places.specs.Places.{is_lf, is_lead, goes_on, count_lf, count_chars, since_lf, beyond, capped, line_cap, column_cap, offset_cap, is_single, OneEach}
+use Rattle.places.proofs.Advances.{place_same, beyond_line, beyond_offset, lf_yes, lf_no, since_some, since_none, beyond_column_some, beyond_column_none}
 
 -- one more, if the byte is counted
 counted : (b : Bool) (n : ℕ) → elim b [ true ↦ suc n | false ↦ n ] ≡ cond b (1 + n) n
@@ -106,3 +108,34 @@ beyond_counted xs p c a b = ⊎_elim
     (λ h. beyond_column_some xs p h ∙ omega (arith, b h))
     (λ h. let z : count_lf xs ≡ 0 = omega arith in beyond_column_none xs p z ∙ omega (arith, a z, ap count_chars (since_none xs z)))
     (cases_lt 0 (count_lf xs))
+
+-- the byte is one
+abbrev pub Single : ℕ → Type 0
+Single x = is_single x ≡ true
+
+no_lf_of : (x : ℕ) → Single x → is_lf x ≡ false
+no_lf_of x e = grind (arith, nat_tests)
+
+lead_of : (x : ℕ) → Single x → goes_on x ≡ false
+lead_of x e = grind (arith, nat_tests)
+
+single_each : (xs : List ℕ) → ((k : ℕ) → k < length xs → Single (slice_index xs k)) → OneEach xs
+unfolding count_lf count_chars
+single_each [] h = (refl, refl)
+single_each (x ∷ xs) h =
+    let s = h 0 (omega arith) in
+    let r = single_each xs (λ k l. h (suc k) (omega arith)) in
+    (lf_no x xs (no_lf_of x s) ∙ r.0, count_lead x xs (lead_of x s) ∙ ap suc r.1)
+
+-- bytes that are all such
+pub ones_each : (xs : List ℕ) (r : Bool) → MatchBool r (AllWithin Single xs 0 (length xs)) ((k : ℕ) × (k < length xs) × HoldsAt (λ x. Single x → ⊥) xs k) → r ≡ true → OneEach xs
+ones_each xs true a e = single_each xs (λ k l. a k 0 (omega arith) l)
+ones_each xs false a e = absurd (false≢true e)
+
+-- the place behind them
+pub along_is : (xs : List ℕ) (p q : Place) → OneEach xs → q.line ≡ min p.line line_cap → q.column ≡ min (p.column + length xs) column_cap
+    → q.offset ≡ min (p.offset + length xs) offset_cap → q ≡ capped (beyond xs p)
+along_is xs p q o a b c = place_same q (capped (beyond xs p))
+    (omega (arith, a, beyond_line xs p, o.0))
+    (omega (arith, b, beyond_column_none xs p o.0, o.1))
+    (omega (arith, c, beyond_offset xs p))

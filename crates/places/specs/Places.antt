@@ -1,5 +1,5 @@
 -- Where in a template a place lies: its line, its column and its offset.
-use Rattle.std.specs.Prelude.{ℕ, suc, ◌+◌, min, Bool, true, false, not, ◌&&◌, List, [], ◌∷◌, ◌++◌, length, ◌==◌, nat_le, nat_lt}
+use Rattle.std.specs.Prelude.{◌≡◌, ℕ, suc, ◌+◌, min, Bool, true, false, not, ◌&&◌, List, [], ◌∷◌, ◌++◌, length, ◌==◌, nat_le, nat_lt}
 use Rattle.std.specs.Fmt.{decimal}
 use Rattle.places.specs.declared.Place.{Place}
 
@@ -57,6 +57,14 @@ count_lf (x ∷ xs) = elim (is_lf x) [ true ↦ suc (count_lf xs) | false ↦ co
 unfoldable pub count_chars : List ℕ → ℕ
 count_chars [] = 0
 count_chars (x ∷ xs) = elim (goes_on x) [ true ↦ count_chars xs | false ↦ suc (count_chars xs) ]
+
+-- the byte is a character of its own, and not LF
+abbrev pub is_single : ℕ → Bool
+is_single b = nat_lt b 128 && not (is_lf b)
+
+-- none of the bytes is LF, and each is a character
+abbrev pub OneEach : List ℕ → Type 0
+OneEach xs = (count_lf xs ≡ 0) × (count_chars xs ≡ length xs)
 
 -- the bytes behind the last LF
 unfoldable pub since_lf : List ℕ → List ℕ

@@ -1,6 +1,6 @@
 // Counting bytes, 32 at a time: a place is behind all the bytes of a piece, and a piece of text may be long.
-ghost use Rattle.std.specs.Prelude.{◌≡◌, ℕ, ◌+◌, min, Bool, count_by};
-ghost use Rattle.places.specs.Places.{is_lf, is_lead, since_lf, line_cap, offset_cap};
+ghost use Rattle.std.specs.Prelude.{◌≡◌, ℕ, ◌+◌, min, Bool, true, count_by};
+ghost use Rattle.places.specs.Places.{is_lf, is_lead, since_lf, is_single, OneEach};
 
 use memchr::memrchr;
 use std::simd::prelude::*;
@@ -69,6 +69,20 @@ pub(crate) fn count<C: Counted>(bytes: &[u8]) -> usize
         counted += C::in_chunk(chunk) as usize;
     }
     counted + count_each::<C>(rest)
+}
+
+// Whether the byte is a character, and not LF.
+fn is_single(b: u8) -> bool
+    ensures { result ≡ is_single b }
+{
+    b < 0x80 && b != b'\n'
+}
+
+// Whether each of the bytes is.
+pub(crate) fn is_one_each(bytes: &[u8]) -> bool
+    ensures { result ≡ true → OneEach bytes.now }
+{
+    bytes.iter().all(|b| is_single(*b))
 }
 
 // The bytes behind the last LF; all, where there is none.

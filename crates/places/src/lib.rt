@@ -4,11 +4,11 @@
 
 ghost use Rattle.std.specs.Prelude.{◌≡◌, ℕ, Some, List, [], ◌++◌, length};
 ghost use Rattle.std.proofs.Math.Utf8.{encodes};
-ghost use Rattle.places.specs.Places.{count_chars, first_place, past, beyond, capped, place_behind, place_text};
+ghost use Rattle.places.specs.Places.{count_chars, first_place, OneEach, past, beyond, capped, place_behind, place_text};
 
 mod counts;
 
-use counts::{Lead, Lf, add_u16, add_u32, count, since_lf};
+use counts::{Lead, Lf, add_u16, add_u32, count, is_one_each, since_lf};
 use std::fmt;
 
 // A place. A number that its type does not hold is told as the highest that it does.
@@ -62,10 +62,24 @@ impl Place {
         }
     }
 
-    // The place behind a few bytes: one after the other.
+    // The place behind so many bytes of one line that are a character each.
+    fn along(self, len: usize) -> Place
+        ensures { (xs : List ℕ) → length xs ≡ len → OneEach xs → result ≡ capped (beyond xs self) }
+    {
+        Place {
+            line: self.line,
+            column: add_u16(self.column, len),
+            offset: add_u32(self.offset, len),
+        }
+    }
+
+    // The place behind a few bytes: one after the other, but for those that are a character each.
     fn walk(self, bytes: &[u8]) -> Place
         ensures { result ≡ capped (beyond bytes.now self) }
     {
+        if is_one_each(bytes) {
+            return self.along(bytes.len());
+        }
         bytes.iter().fold(self, |place, b| place.step(*b))
     }
 
