@@ -2,7 +2,7 @@
 
 #![tactic(auto)]
 
-ghost use Rattle.std.specs.Prelude.{◌≡◌, ℕ, ◌+◌, ◌-◌, ◌<◌, ◌≤◌, min, List, [], ◌∷◌, ◌++◌, length, take, drop, Decides, IfSome};
+ghost use Rattle.std.specs.Prelude.{◌≡◌, ℕ, ◌+◌, ◌-◌, ◌<◌, ◌≤◌, min, true, List, [], ◌∷◌, ◌++◌, length, take, drop, Decides, IfSome};
 ghost use Rattle.byte_search.specs.Search.{stands_at, first_in, distance_to, First, Holds, HoldsAny, Stands};
 
 use memchr::memmem;
@@ -25,11 +25,24 @@ pub fn until(s: &[u8], i: usize) -> &[u8]
 
 // Each search says beside what it finds that this lies in the haystack: callers' arithmetic does not read that off its value.
 
-// Whether `haystack` begins with `needle`.
+// Whether the first bytes differ.
+fn differ_at_once(haystack: &[u8], needle: &[u8]) -> bool
+    ensures { result ≡ true → (rest : List ℕ) → haystack.now ≡ needle.now ++ rest → ⊥ }
+{
+    match (haystack, needle) {
+        ([b, ..], [first, ..]) => b != first,
+        _ => false,
+    }
+}
+
+// Whether `haystack` begins with `needle`. Mostly the first byte decides, so it is looked at before the library is asked.
 pub fn starts_with_bytes(haystack: &[u8], needle: &[u8]) -> bool
     ensures value { result ≡ stands_at needle.now haystack.now }
     ensures front { Decides result ((rest : List ℕ) × (haystack.now ≡ needle.now ++ rest)) }
 {
+    if differ_at_once(haystack, needle) {
+        return false;
+    }
     haystack.starts_with(needle)
 }
 

@@ -1,8 +1,13 @@
-use Rattle.std.proofs.Common.{◌≡◌, List, ◌++◌, length, drop, Decides}
+use Rattle.std.proofs.Common.{◌≡◌, List, ◌++◌, length, drop, Decides, false}
+use Rattle.std.proofs.lemmas.Bool.{false≢true}
 use Rattle.std.proofs.lemmas.Bool.Decides.{Decides-eqb}
 use Rattle.std.proofs.lemmas.Slice.Eq.{starts_is}
 use Rattle.byte_search.proofs.Stands.{stands_by}
 use Rattle.byte_search.proofs.starts_with_bytes.Goals as goal
+
+pub returns-then-differ_at_once-clause-value : goal.returns-then-differ_at_once-clause-value
+returns-then-differ_at_once-clause-value c =
+    stands_by false c.args.needle.now c.args.haystack.now ((λ e. absurd (false≢true e)), (λ p. absurd (c.differ_at_once.ensures c.if-differ_at_once.true p.0 p.1)))
 
 pub returns : goal.returns
 returns c =
