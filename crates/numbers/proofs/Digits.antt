@@ -36,7 +36,7 @@ module _ (base acc x : ℕ) (xs : List ℕ) where
 abbrev pub Walked : ℕ → List ℕ → ℕ → ℕ → Type 0
 Walked base s i acc = value_from base 0 s ≡ value_from base acc (drop i s)
 
-below_one : (v : ℕ) → v < 2 ^ 128 → Some v ≡ below128 (Some v)
+pub below_one : (v : ℕ) → v < 2 ^ 128 → Some v ≡ below128 (Some v)
 below_one v h = sym (ap (λ t. elim t [ true ↦ Some v | false ↦ None ]) (lt-ltb v (2 ^ 128) h))
 
 -- a value that is too large stays so

@@ -7,7 +7,7 @@ use Rattle.rules.specs.Bytes.{pushes, behind_at}
 use Rattle.texts.proofs.Alike.{found_behind}
 
 -- the same is behind a place in what is left
-left_behind : (t : List ℕ) (n i : ℕ) → i ≤ n → behind_at (take n t) i ≡ behind_at t i
+pub left_behind : (t : List ℕ) (n i : ℕ) → i ≤ n → behind_at (take n t) i ≡ behind_at t i
 left_behind t n i h = ap (λ l. pushes l []) (take-take i n t h)
 
 -- what is found ahead of a place in what is left, in words

@@ -1,6 +1,7 @@
 pub mod Whites
 pub mod Behind
 pub mod Gaps
+pub mod Numbers
 pub mod Tags
 pub mod Texts
 pub mod Naming

@@ -25,7 +25,7 @@ module _ (os : List Opening) (s : Config) (real : AllReal os) (spaces : s.spaces
 
   by_holds : (t : List ℕ) (i : ℕ) (m : LexerState) (w : Pending) → i + held w ≤ left_len s t → WaitsAt os s (take (left_len s t) t) i w → Holds os s t i (verdict_by os s (behind_at t i) (drop i (take (left_len s t) t)) m w)
   by_holds t i Template w h g = waiting_holds os s t i real spaces w h g
-  by_holds t i (Inside k b) w h g = tag_holds os s t i spaces (omega arith) (behind_at t i) k b (drop i (take (left_len s t) t)) refl
+  by_holds t i (Inside k b) w h g = tag_holds os s t i spaces (omega arith) k b (drop i (take (left_len s t) t)) refl
   by_holds t i Over w h g = over_holds t i (drop i (take (left_len s t) t))
 
   verdict_holds : (t : List ℕ) (i : ℕ) (m : LexerState) (w : Pending) (e : Bool) (p : Step)

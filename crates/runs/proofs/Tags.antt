@@ -1,5 +1,5 @@
 -- Nothing is misnamed inside tags.
-use Rattle.std.proofs.Common.{◌≡◌, ℕ, zero, suc, ◌+◌, ◌^◌, ◌<◌, ◌≤◌, Bool, true, false, ◌&&◌, ◌||◌, eqb, ltb, List, [], ◌∷◌, length, get_or, take, drop, ℤ, Some, None, Ok, Err, Option, Result, sym, refl, ap, ◌∙◌, subst, inl, inr, arith}
+use Rattle.std.proofs.Common.{◌≡◌, ℕ, zero, suc, ◌+◌, ◌<◌, ◌≤◌, Bool, true, false, ◌&&◌, ◌||◌, eqb, List, [], ◌∷◌, length, get_or, take, drop, ℤ, Some, None, Ok, Err, Option, Result, sym, refl, ap, ◌∙◌, subst, inl, inr, arith}
 use Rattle.std.proofs.lemmas.List.{drop-drop, length-drop, length-take}
 use Rattle.byte_search.specs.Search.{stands_at, first_in}
 use Rattle.finder.specs.Finding.{Opening}
@@ -9,21 +9,19 @@ use Rattle.spaces.specs.Spaces.{white_space}
 use Rattle.spaces.proofs.Lines.{line_told}
 use Rattle.spaces.proofs.Runs.{run_longest as white_longest}
 use Rattle.escape.specs.declared.fault.DecodeFault.{DecodeFault}
-use Rattle.pieces.specs.declared.kind.Kind.TheVariants.{BlockEnd, Ident, Str, Int, Big}
+use Rattle.pieces.specs.declared.kind.Kind.TheVariants.{BlockEnd, Ident, Str}
 use Rattle.pieces.specs.declared.kind.Operator.{Operator}
-use Rattle.pieces.specs.declared.fault.FaultKind.TheVariants.{UnendedString, NoToken, TrailingUnderscore, BadInteger}
+use Rattle.pieces.specs.declared.fault.FaultKind.TheVariants.{UnendedString, NoToken}
 use Rattle.rules.specs.declared.BlockSentinel.{BlockSentinel}
 use Rattle.rules.specs.declared.BlockSentinel.TheVariants.{Variable, Block, LineStatement, Expression}
 use Rattle.rules.specs.declared.LexerState.{LexerState}
 use Rattle.rules.specs.declared.LexerState.TheVariants.{Template, Inside}
-use Rattle.rules.specs.declared.NumberState.{NumberState}
-use Rattle.rules.specs.declared.NumberState.TheVariants.{RadixInteger, Integer, Fraction, Exponent, ExponentSign, ExponentDigits}
 use Rattle.rules.specs.declared.Pending.TheVariants.{Nothing}
 use Rattle.rules.specs.declared.whitespace.Whitespace.{Whitespace}
 use Rattle.rules.specs.declared.whitespace.Whitespace.TheVariants.{Default, Preserve, Remove}
 use Rattle.rules.specs.Config.{Config, white, inline_white}
-use Rattle.rules.specs.Bytes.{is_digit, is_sign, sign_of, leads_name, is_name_part, run, LongestRun, last_is}
-use Rattle.rules.specs.Numbers.{base_of, scan, Scanned, value_of, integer, number_by, scanned, number}
+use Rattle.rules.specs.Bytes.{is_digit, is_sign, sign_of, leads_name, is_name_part, run, LongestRun, behind_at}
+use Rattle.rules.specs.Numbers.{number}
 use Rattle.rules.specs.Reading.{left_len}
 use Rattle.rules.specs.State.{told, plain, Verdict, fault}
 use Rattle.rules.specs.Strings.{quote_end, decoded, string_of, string}
@@ -34,41 +32,16 @@ use Rattle.rules.proofs.Runs.{run_longest}
 use Rattle.runs.specs.Named.{IsQuoted, IsEnd, IsStatementEnd}
 use Rattle.runs.proofs.Whites.{blanks_pass}
 use Rattle.runs.proofs.Gaps.{WaitsAt, Holds, tail_waits, left_has, white_named}
+use Rattle.runs.proofs.Numbers.{number_holds}
 use Rattle.runs.proofs.Reached.{left_le}
 
 module _ (os : List Opening) (s : Config) (t : List ℕ) (i : ℕ) where
   abbrev H : Verdict → Type 0
   H v = Holds os s t i v
 
-  -- numbers
-
-  integer_holds : (n : ℕ) (m : LexerState) (v : Option ℕ) → H (integer n m v)
-  integer_holds n m None = tt
-  integer_holds n m (Some v) = elim (ltb v (2 ^ 64)) as (λ b. H (elim b [ true ↦ told Int n 0 n (Some v) m Nothing | false ↦ elim (ltb v (2 ^ 128)) [ true ↦ plain Big n m Nothing | false ↦ fault BadInteger n ] ])) [
-    | true ↦ (tt, tt, tt)
-    | false ↦ elim (ltb v (2 ^ 128)) as (λ b. H (elim b [ true ↦ plain Big n m Nothing | false ↦ fault BadInteger n ])) [ true ↦ (tt, tt, tt) | false ↦ tt ]
-  ]
-
-  number_by_holds : (q : NumberState) (base n : ℕ) (m : LexerState) (xs : List ℕ) → H (number_by q base n m xs)
-  number_by_holds RadixInteger base n m xs = integer_holds n m (value_of base xs)
-  number_by_holds Integer base n m xs = integer_holds n m (value_of base xs)
-  number_by_holds Fraction base n m xs = (tt, tt, tt)
-  number_by_holds Exponent base n m xs = tt
-  number_by_holds ExponentSign base n m xs = tt
-  number_by_holds ExponentDigits base n m xs = (tt, tt, tt)
-
-  scanned_holds : (base skip : ℕ) (m : LexerState) (xs : List ℕ) (r : Scanned) → H (scanned base skip m xs r)
-  scanned_holds base skip m xs r = elim (last_is 95 (take r.0 xs)) as (λ b. H (elim b [ true ↦ fault TrailingUnderscore (skip + r.0) | false ↦ number_by r.1 base (skip + r.0) m (take r.0 xs) ])) [
-    | true ↦ tt
-    | false ↦ number_by_holds r.1 base (skip + r.0) m (take r.0 xs)
-  ]
-
-  number_holds : (dotted : Bool) (m : LexerState) (xs : List ℕ) → H (number dotted m xs)
-  unfolding number
-  number_holds dotted m xs = elim (eqb (base_of xs) 10) as (λ b. H (elim b [ true ↦ scanned 10 0 m xs (scan 10 dotted Integer xs) | false ↦ scanned (base_of xs) 2 m (drop 2 xs) (scan (base_of xs) dotted RadixInteger (drop 2 xs)) ])) [
-    | true ↦ scanned_holds 10 0 m xs (scan 10 dotted Integer xs)
-    | false ↦ scanned_holds (base_of xs) 2 m (drop 2 xs) (scan (base_of xs) dotted RadixInteger (drop 2 xs))
-  ]
+  -- what the cut leaves
+  abbrev left : List ℕ
+  left = take (left_len s t) t
 
   -- the ends of tags
 
@@ -77,9 +50,9 @@ module _ (os : List Opening) (s : Config) (t : List ℕ) (i : ℕ) where
   trim_waits Preserve j = tt
   trim_waits Default j = tt
 
-  -- what the cut leaves
-  abbrev left : List ℕ
-  left = take (left_len s t) t
+  -- what is kept of the bytes before
+  abbrev behind : List ℕ
+  behind = behind_at t i
 
   -- a verdict that may not be there
   abbrev HoldsIf : Option Verdict → Type 0
@@ -137,24 +110,25 @@ module _ (os : List Opening) (s : Config) (t : List ℕ) (i : ℕ) where
         (tt, (n, subst (λ l. leads_name (get_or l 0 0) ≡ true) e f, subst (λ l. LongestRun is_name_part l n) e (run_longest is_name_part (x ∷ xs)), refl), tt)
     name_holds m false f = tt
 
-    other_holds : (behind : List ℕ) (m : LexerState) → H (elim (is_digit x) [ true ↦ number (dot_behind behind) m (x ∷ xs) | false ↦ name m (leads_name x) ])
-    other_holds behind m = elim (is_digit x) as (λ b. H (elim b [ true ↦ number (dot_behind behind) m (x ∷ xs) | false ↦ name m (leads_name x) ])) [
-      | true ↦ number_holds (dot_behind behind) m (x ∷ xs)
-      | false ↦ name_holds m (leads_name x) refl
-    ]
+    other_holds : (m : LexerState) (b : Bool) → is_digit x ≡ b → H (elim b [ true ↦ number (dot_behind behind) m (x ∷ xs) | false ↦ name m (leads_name x) ])
+    other_holds m true f =
+        let z = ap length e in
+        let h : i ≤ length left = omega (arith, length-drop i left) in
+        subst (λ l. H (number (dot_behind behind) m l)) (sym e) (number_holds os s t i h m (subst (λ l. is_digit (get_or l 0 0) ≡ true) e f))
+    other_holds m false f = name_holds m (leads_name x) refl
 
-    literal_by : (behind : List ℕ) (m : LexerState) (b : Bool) → (eqb x 34 || eqb x 39) ≡ b
+    literal_by : (m : LexerState) (b : Bool) → (eqb x 34 || eqb x 39) ≡ b
         → H (elim b [ true ↦ string x m xs | false ↦ elim (is_digit x) [ true ↦ number (dot_behind behind) m (x ∷ xs) | false ↦ name m (leads_name x) ] ])
-    literal_by behind m true q = string_holds m q
-    literal_by behind m false q = other_holds behind m
+    literal_by m true q = string_holds m q
+    literal_by m false q = other_holds m (is_digit x) refl
 
-    literal_holds : (behind : List ℕ) (m : LexerState) → H (literal behind m x xs)
+    literal_holds : (m : LexerState) → H (literal behind m x xs)
     unfolding literal
-    literal_holds behind m = literal_by behind m (eqb x 34 || eqb x 39) refl
+    literal_holds m = literal_by m (eqb x 34 || eqb x 39) refl
 
-    token_by_holds : (behind : List ℕ) (k : BlockSentinel) (b : ℤ) (o : Option Operator) → first_standing operators (x ∷ xs) ≡ o → H (token_by o behind k b x xs)
-    token_by_holds behind k b None f = literal_holds behind (Inside k b)
-    token_by_holds behind k b (Some o) f = (tt, (ap (first_standing operators) (sym e) ∙ f, refl), tt)
+    token_by_holds : (k : BlockSentinel) (b : ℤ) (o : Option Operator) → first_standing operators (x ∷ xs) ≡ o → H (token_by o behind k b x xs)
+    token_by_holds k b None f = literal_holds (Inside k b)
+    token_by_holds k b (Some o) f = (tt, (ap (first_standing operators) (sym e) ∙ f, refl), tt)
 
     -- ends
 
@@ -191,13 +165,13 @@ module _ (os : List Opening) (s : Config) (t : List ℕ) (i : ℕ) where
     unfolding close
     close_holds k b = elim (is_zero b) as (λ z. HoldsIf (elim z [ true ↦ close_by s k (end_of s k) x xs | false ↦ None ])) [ true ↦ close_by_holds k | false ↦ tt ]
 
-    inside_holds : (behind : List ℕ) (k : BlockSentinel) (b : ℤ) (r : Option Verdict) → HoldsIf r → H (elim r [ Some v ↦ v | None ↦ token behind k b x xs ])
-    inside_holds behind k b None h = token_by_holds behind k b (first_standing operators (x ∷ xs)) refl
-    inside_holds behind k b (Some v) h = h
+    inside_holds : (k : BlockSentinel) (b : ℤ) (r : Option Verdict) → HoldsIf r → H (elim r [ Some v ↦ v | None ↦ token behind k b x xs ])
+    inside_holds k b None h = token_by_holds k b (first_standing operators (x ∷ xs)) refl
+    inside_holds k b (Some v) h = h
 
-    blanks_holds : s.spaces ≡ white_space → (behind : List ℕ) (k : BlockSentinel) (b : ℤ) (n : ℕ) → n ≡ blank_run (x ∷ xs) → H (blanks s behind k b x xs n)
-    blanks_holds w behind k b zero f = inside_holds behind k b (close s k b x xs) (close_holds k b)
-    blanks_holds w behind k b (suc n) f =
+    blanks_holds : s.spaces ≡ white_space → (k : BlockSentinel) (b : ℤ) (n : ℕ) → n ≡ blank_run (x ∷ xs) → H (blanks s behind k b x xs n)
+    blanks_holds w k b zero f = inside_holds k b (close s k b x xs) (close_holds k b)
+    blanks_holds w k b (suc n) f =
         let a : AllPass (white s) (take (suc n) (drop i left)) = subst (λ l. AllPass (white s) (take (suc n) l)) e (subst (λ j. AllPass (white s) (take j (x ∷ xs))) (sym f) (blanks_pass s w (x ∷ xs))) in
         let l = blank_le (x ∷ xs) in
         let z = ap length e in
@@ -232,9 +206,9 @@ module _ (os : List Opening) (s : Config) (t : List ℕ) (i : ℕ) where
     statement_ends Expression b = tt
     statement_ends LineStatement b = elim (is_zero b) as (λ z. EndsIf (elim z [ true ↦ line_rest spaces (drop spaces (x ∷ xs)) | false ↦ None ])) [ true ↦ rest_ends (drop spaces (x ∷ xs)) refl | false ↦ tt ]
 
-    statement_by : s.spaces ≡ white_space → (behind : List ℕ) (k : BlockSentinel) (b : ℤ) (r : Option ℕ) → EndsIf r → H (elim r [ Some n ↦ plain BlockEnd n Template Nothing | None ↦ blanks s behind k b x xs (blank_run (x ∷ xs)) ])
-    statement_by w behind k b (Some n) h = (tt, inr h, tt)
-    statement_by w behind k b None h = blanks_holds w behind k b (blank_run (x ∷ xs)) refl
+    statement_by : s.spaces ≡ white_space → (k : BlockSentinel) (b : ℤ) (r : Option ℕ) → EndsIf r → H (elim r [ Some n ↦ plain BlockEnd n Template Nothing | None ↦ blanks s behind k b x xs (blank_run (x ∷ xs)) ])
+    statement_by w k b (Some n) h = (tt, inr h, tt)
+    statement_by w k b None h = blanks_holds w k b (blank_run (x ∷ xs)) refl
 
   -- at the template's end
   end_holds : (k : BlockSentinel) → i ≤ left_len s t → [] ≡ drop i left → H (tag_end k)
@@ -250,7 +224,7 @@ module _ (os : List Opening) (s : Config) (t : List ℕ) (i : ℕ) where
       (tt, inr (0, l, 0, n, omega arith, inr (omega (arith, length-drop i left, length-take (left_len s t) t, left_le s t))), tt)
 
   -- inside a tag a piece is what its kind says, and so is what waits behind it
-  pub tag_holds : s.spaces ≡ white_space → i ≤ left_len s t → (behind : List ℕ) (k : BlockSentinel) (b : ℤ) (xs : List ℕ) → xs ≡ drop i left → H (tag_verdict s behind k b xs)
+  pub tag_holds : s.spaces ≡ white_space → i ≤ left_len s t → (k : BlockSentinel) (b : ℤ) (xs : List ℕ) → xs ≡ drop i left → H (tag_verdict s behind k b xs)
   unfolding tag_verdict
-  tag_holds w h behind k b [] e = end_holds k h e
-  tag_holds w h behind k b (x ∷ xs) e = statement_by x xs e w behind k b (statement_end s k b (x ∷ xs)) (statement_ends x xs e k b)
+  tag_holds w h k b [] e = end_holds k h e
+  tag_holds w h k b (x ∷ xs) e = statement_by x xs e w k b (statement_end s k b (x ∷ xs)) (statement_ends x xs e k b)

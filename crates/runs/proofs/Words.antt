@@ -1,10 +1,12 @@
 -- The bytes kept behind a place, in words: when there are none, and that looking back over them is looking back over the whole template.
-use Rattle.std.proofs.Common.{◌≡◌, ℕ, true, false, eqb, List, [], ◌∷◌, ◌++◌, reverse, take, sym, refl, ap, ◌∙◌, subst, ⊎_elim}
+use Rattle.std.proofs.Common.{◌≡◌, ℕ, zero, suc, ◌≤◌, true, false, eqb, List, [], ◌∷◌, ◌++◌, length, get_or, reverse, take, sym, refl, ap, ◌∙◌, subst, ⊎_elim}
 use Rattle.std.proofs.lemmas.List.{append-nil, append_assoc, reverse-append}
 use Rattle.std.proofs.lemmas.Bool.{cases_Bool, eqb-true}
+use Rattle.std.proofs.Math.Seq.{take-suc}
 use Rattle.finder.specs.Finding.{is_line_end, is_space_or_tab, blank_line}
 use Rattle.rules.specs.Bytes.{push, pushes, behind_at, line_before}
 use Rattle.rules.specs.Tags.{dot_behind}
+use Rattle.runs.specs.Named.{is_dotted}
 
 -- two lists of bytes behind from which one looks back to the same
 pub record SameBack (b c : List ℕ) : Type 0 where
@@ -57,3 +59,10 @@ pub lines_suffice : (t : List ℕ) (i : ℕ)
     × (line_before (behind_at t i) [] ≡ line_before (reverse (take i t)) [])
     × (dot_behind (behind_at t i) ≡ dot_behind (reverse (take i t)))
 lines_suffice t i = ((back t i).blank, (back t i).line [], (back t i).dot)
+
+-- a dot is read right before a place exactly if it stands there
+pub dot_stands : (t : List ℕ) (i : ℕ) → i ≤ length t → dot_behind (behind_at t i) ≡ is_dotted t i
+unfolding pushes
+dot_stands t zero h = refl
+dot_stands t (suc i) h =
+    (back t (suc i)).dot ∙ ap (λ l. dot_behind (reverse l)) (take-suc t i 0 h) ∙ ap dot_behind (reverse-append (take i t) (get_or t i 0 ∷ []))

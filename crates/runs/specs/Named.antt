@@ -1,5 +1,5 @@
--- Nothing misnamed: no opening lies in plain text, the longest opening names what it begins, and every piece but numbers has its form.
-use Rattle.std.specs.Prelude.{◌≡◌, ℕ, ◌+◌, ◌-◌, ◌<◌, ◌≤◌, ◌⊎◌, true, false, ◌||◌, List, [], ◌∷◌, length, take, drop, None, Some, ◌==◌, slice_index}
+-- Nothing misnamed: no opening lies in plain text, the longest opening names what it begins, and every piece has its form.
+use Rattle.std.specs.Prelude.{◌≡◌, ℕ, zero, suc, ◌+◌, ◌-◌, ◌^◌, ◌<◌, ◌≤◌, ◌⊎◌, Bool, true, false, ◌||◌, List, [], ◌∷◌, length, take, drop, None, Some, ◌==◌, slice_index}
 use Rattle.std.specs.List.{ContainsAt as Has}
 use Rattle.byte_search.specs.Search.{first_in, First, Stands}
 use Rattle.finder.specs.declared.StartMarker.{StartMarker}
@@ -11,13 +11,19 @@ use Rattle.pieces.specs.declared.kind.Kind.{Kind}
 use Rattle.pieces.specs.declared.kind.Kind.TheVariants.{Text, RawText, VariableStart, VariableEnd, BlockStart, BlockEnd, Ident, Str, String, Int, Big, Float, Operator as Operates, White, Comment, LineComment, RawOpen, RawClose, Cut}
 use Rattle.pieces.specs.declared.kind.Operator.{Operator}
 use Rattle.pieces.specs.Kinds.{operator_text}
-use Rattle.rules.specs.Bytes.{sign_len, in_line, leads_name, is_name_part, LongestRun}
+use Rattle.rules.specs.Bytes.{sign_len, in_line, is_digit, leads_name, is_name_part, LongestRun}
 use Rattle.rules.specs.Config.{Config, white, inline_white}
 use Rattle.rules.specs.Reading.{left_len}
 use Rattle.rules.specs.declared.EndRaw.{EndRaw}
+use Rattle.rules.specs.declared.NumberState.{NumberState}
+use Rattle.rules.specs.declared.NumberState.TheVariants.{RadixInteger, Integer, Fraction, ExponentDigits}
+use Rattle.rules.specs.Numbers.{base_of}
 use Rattle.rules.specs.Strings.{quote_end}
 use Rattle.rules.specs.Tags.{operators, first_standing}
 use Rattle.rules.specs.Texts.{Basic, basic_end, basic_tag, raw_name, opening_sign}
+use Rattle.numbers.specs.Longest.{Longest as LongestNumber}
+use Rattle.numbers.specs.Within.{EndsIn}
+use Rattle.numbers.specs.Written.{Written}
 use Rattle.raws.specs.Closers.{TagSpelt, CloserSpelt, Closes, FirstCloser}
 use Rattle.runs.specs.Whole.{Spans, Along, pieces_of}
 use Rattle.runs.specs.declared.Reply.{Reply}
@@ -74,6 +80,48 @@ IsStr u i j = (n : ℕ) × IsQuoted n u i j × (first_in (92 ∷ []) (take n (dr
 abbrev pub IsString : List ℕ → ℕ → ℕ → Type 0
 IsString u i j = (n : ℕ) × IsQuoted n u i j × (k : ℕ) × (first_in (92 ∷ []) (take n (drop (i + 1) u)) ≡ Some k)
 
+-- a dot is right before the place i of u
+abbrev pub is_dotted : List ℕ → ℕ → Bool
+is_dotted u zero = false
+is_dotted u (suc i) = slice_index u i == 46
+
+-- how many bytes tell the base before the digits begin
+abbrev pub prefix_len : ℕ → ℕ
+prefix_len base = elim (base == 10) [ true ↦ 0 | false ↦ 2 ]
+
+-- the part of a number that its digits begin in
+abbrev pub first_part : ℕ → NumberState
+first_part base = elim (base == 10) [ true ↦ Integer | false ↦ RadixInteger ]
+
+-- the bytes behind those that tell the base of the number at the place i of u
+abbrev pub digits_at : List ℕ → ℕ → List ℕ
+digits_at u i = drop (prefix_len (base_of (drop i u))) (drop i u)
+
+-- a number: it begins with a digit, its first two bytes decide the base, and behind those that tell it stand n bytes, which are all that lead on;
+-- in the part p the number stops, and not behind `_`
+pub record IsNumber (n : ℕ) (p : NumberState) (u : List ℕ) (i j : ℕ) : Type 0 where
+  pub digit : is_digit (slice_index (drop i u) 0) ≡ true
+  pub longest : LongestNumber (base_of (drop i u)) (is_dotted u i) (first_part (base_of (drop i u))) (digits_at u i) n p
+  pub ends : EndsIn 95 (take n (digits_at u i)) → ⊥
+  pub all : j ≡ i + (prefix_len (base_of (drop i u)) + n)
+
+-- an integer of the value v: a number that stops in such a part, and its digits write v
+abbrev pub IsInteger : ℕ → List ℕ → ℕ → ℕ → Type 0
+IsInteger v u i j =
+    (n : ℕ) × (p : NumberState) × IsNumber n p u i j × ((p ≡ Integer) ⊎ (p ≡ RadixInteger)) × Written (base_of (drop i u)) (take n (digits_at u i)) (Some v)
+
+-- an integer below 2^64
+abbrev pub IsInt : List ℕ → ℕ → ℕ → Type 0
+IsInt u i j = (v : ℕ) × IsInteger v u i j × (v < 2 ^ 64)
+
+-- an integer from 2^64 on, below 2^128
+abbrev pub IsBig : List ℕ → ℕ → ℕ → Type 0
+IsBig u i j = (v : ℕ) × IsInteger v u i j × (2 ^ 64 ≤ v) × (v < 2 ^ 128)
+
+-- a number that stops in a fraction or in the digits of an exponent
+abbrev pub IsFloat : List ℕ → ℕ → ℕ → Type 0
+IsFloat u i j = (n : ℕ) × (p : NumberState) × IsNumber n p u i j × ((p ≡ Fraction) ⊎ (p ≡ ExponentDigits))
+
 -- a comment: an opening with its sign, a body, and the comment end, which stands nowhere before
 abbrev pub IsComment : List Opening → Config → List ℕ → ℕ → ℕ → Type 0
 IsComment os s u i j =
@@ -101,7 +149,6 @@ abbrev pub IsRawClose : List Opening → Config → List ℕ → ℕ → ℕ →
 IsRawClose os s u i j = (h : ℕ) × IsRawText os s u h i × (r : EndRaw) × Closes s u i r × CloserSpelt s (drop i u) (Some r) × (j ≡ i + r.len)
 
 -- the piece of this kind from i to j is what its kind says; u is what the cut leaves of the template t.
--- Of numbers their rules say it; every other piece has one of these forms.
 abbrev pub IsNamed : List Opening → Config → List ℕ → ℕ → ℕ → Kind → Type 0
 IsNamed os s t i j Text = NoOpening os (take (left_len s t) t) i j
 IsNamed os s t i j White = AllPass (white s) (take (j - i) (drop i t))
@@ -119,9 +166,9 @@ IsNamed os s t i j Ident = IsIdent (take (left_len s t) t) i j
 IsNamed os s t i j (Operates o) = IsOperator o (take (left_len s t) t) i j
 IsNamed os s t i j Str = IsStr (take (left_len s t) t) i j
 IsNamed os s t i j String = IsString (take (left_len s t) t) i j
-IsNamed os s t i j Int = Unit {0}
-IsNamed os s t i j Big = Unit {0}
-IsNamed os s t i j Float = Unit {0}
+IsNamed os s t i j Int = IsInt (take (left_len s t) t) i j
+IsNamed os s t i j Big = IsBig (take (left_len s t) t) i j
+IsNamed os s t i j Float = IsFloat (take (left_len s t) t) i j
 
 -- every piece that is told lies where the one before it ended, and is what its kind says
 abbrev pub Named : List Opening → Config → List ℕ → List Reply → Type 0
