@@ -20,7 +20,7 @@ use Rattle.reader.proofs.Tells.{told_before, told_now}
 use Rattle.runs.specs.declared.Reply.TheVariants.{Told}
 use Rattle.runs.specs.declared.Ask.TheVariants.{Next, Rest}
 use Rattle.runs.specs.Calls.{Asked, replies, behind_calls, AllLawful}
-use Rattle.runs.specs.Named.{IsNamed, Named}
+use Rattle.runs.specs.Named.{IsPiece, Named}
 use Rattle.runs.specs.Whole.{pieces_of, finishes, Spans, Along, Whole}
 use Rattle.runs.proofs.Reached.{now_le, Reached, Lies, Kept, along_run}
 
@@ -61,8 +61,8 @@ stays_finished s (Rest ∷ cs) v h = stays_finished s cs v h
 abbrev pub Any : ℕ → LexerState → Pending → Type 0
 Any i m w = Unit {0}
 
-abbrev pub AnyKind : ℕ → ℕ → Kind → Type 0
-AnyKind i k c = Unit {0}
+abbrev pub AnyKind : ℕ → ℕ → Kind → Option ℕ → Type 0
+AnyKind i k c o = Unit {0}
 
 module _ (t : List ℕ) (P Q : ℕ → ℕ → Piece → Type 0) (f : (i k : ℕ) (p : Piece) → P i k p → Q i k p) where
   pub along_map : (i j : ℕ) (ps : List Piece) → Along P i ps j → Along Q i ps j
@@ -85,9 +85,9 @@ whole_run os s t ends apart small m h cs l =
     let b = q.inside in
     (q.at, omega arith, along_map t (Lies os s t Any AnyKind) (Spans t) (λ i k p x. x.0) 0 q.at (pieces_of (replies s (unread s m t) cs)) a.1, λ e. q.finished (stays_finished s cs (unread s m t) e))
 
--- where each verdict's piece is what its kind says, so are all pieces of a run
-pub named_run : (os : List Opening) (s : Config) (t : List ℕ) (Keep : ℕ → LexerState → Pending → Type 0) → Ended s → Apart os → length t ≤ 16777216 → Kept os s t Keep (IsNamed os s t)
+-- where each verdict's piece is what its kind says and has its value, so are all pieces of a run
+pub named_run : (os : List Opening) (s : Config) (t : List ℕ) (Keep : ℕ → LexerState → Pending → Type 0) → Ended s → Apart os → length t ≤ 16777216 → Kept os s t Keep (IsPiece os s t)
     → (m : LexerState) → level m ≡ 0 → Keep 0 m Nothing → (cs : List Asked) → AllLawful os cs → Named os s t (replies s (unread s m t) cs)
 named_run os s t Keep ends apart small kept m h k cs l =
-    let a = along_run os s t Keep (IsNamed os s t) ends small apart kept (refl, refl) m h k cs l in
+    let a = along_run os s t Keep (IsPiece os s t) ends small apart kept ((refl, refl), refl) m h k cs l in
     (a.0.at, a.1)

@@ -13,7 +13,7 @@ use Rattle.rules.specs.Config.{Config}
 use Rattle.rules.specs.Reading.{left_len}
 use Rattle.rules.specs.Shapes.{held, least}
 use Rattle.rules.specs.Texts.{AllReal, over_verdict, verdict_by, verdict}
-use Rattle.runs.specs.Named.{IsNamed}
+use Rattle.runs.specs.Named.{IsPiece}
 use Rattle.runs.proofs.Gaps.{WaitsAt, NotCut, Holds}
 use Rattle.runs.proofs.Tags.{tag_holds}
 use Rattle.runs.proofs.Texts.{waiting_holds}
@@ -34,11 +34,11 @@ module _ (os : List Opening) (s : Config) (real : AllReal os) (spaces : s.spaces
       → Holds os s t i (Ok (Some p))
   verdict_holds t i m w e p h g v = subst (Holds os s t i) v (by_holds t i m w h g)
 
-  -- a piece that a verdict tells is what its kind says, and what waits behind it stands there
+  -- a piece that a verdict tells is what its kind says, has its value, and what waits behind it stands there
   pub named_verdict : (t : List ℕ) (i : ℕ) (m : LexerState) (w : Pending) (e : Bool) (p : Step)
       → i + held w ≤ left_len s t → 0 < least w → WaitsAt os s (take (left_len s t) t) i w
       → verdict os s (core_at t (left_len s t) i m w e) ≡ Ok (Some p)
-      → IsNamed os s t i (i + p.len) p.kind × WaitsAt os s (take (left_len s t) t) (i + p.len) p.pending
+      → IsPiece os s t i (i + p.len) p.kind p.value × WaitsAt os s (take (left_len s t) t) (i + p.len) p.pending
   named_verdict t i m w e p h l g v = let r = verdict_holds t i m w e p h g v in (r.1, r.2)
 
   -- no verdict tells the cut

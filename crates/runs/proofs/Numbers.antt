@@ -20,7 +20,7 @@ use Rattle.numbers.specs.Written.{below128, Written}
 use Rattle.numbers.proofs.Digits.{below_one, written_at}
 use Rattle.numbers.proofs.Lasts.{last_decides}
 use Rattle.numbers.proofs.Scans.{longest_at}
-use Rattle.runs.specs.Named.{is_dotted, prefix_len, first_part, digits_at, IsNumber}
+use Rattle.runs.specs.Named.{is_dotted, prefix_len, first_part, digits_at, IsNumber, IsInteger}
 use Rattle.runs.proofs.Behind.{left_behind}
 use Rattle.runs.proofs.Gaps.{Holds}
 use Rattle.runs.proofs.Words.{dot_stands}
@@ -62,8 +62,13 @@ module _ (os : List Opening) (s : Config) (t : List ℕ) (i : ℕ) where
       module _ (k : (p ≡ Integer) ⊎ (p ≡ RadixInteger)) where
         integer_by : (v : ℕ) → value_of base digits ≡ Some v → (b c : Bool) → ltb v (2 ^ 64) ≡ b → ltb v (2 ^ 128) ≡ c
             → H (elim b [ true ↦ told Int len 0 len (Some v) m Nothing | false ↦ elim c [ true ↦ plain Big len m Nothing | false ↦ fault BadInteger len ] ])
-        integer_by v e true c g h = let l = ltb-true v (2 ^ 64) g in (tt, (v, (n, p, f, k, writes v e (omega arith)), l), tt)
-        integer_by v e false true g h = let l = ltb-true v (2 ^ 128) h in (tt, (v, (n, p, f, k, writes v e l), ltb-false v (2 ^ 64) g, l), tt)
+        integer_by v e true c g h =
+            let l = ltb-true v (2 ^ 64) g in
+            let w : IsInteger v left i (i + len) = (n, p, f, k, writes v e (omega arith)) in
+            (tt, ((v, w, l), (v, w, refl)), tt)
+        integer_by v e false true g h =
+            let l = ltb-true v (2 ^ 128) h in
+            (tt, ((v, (n, p, f, k, writes v e l), ltb-false v (2 ^ 64) g, l), refl), tt)
         integer_by v e false false g h = tt
 
         integer_holds : (o : Option ℕ) → value_of base digits ≡ o → H (integer len m o)
@@ -73,10 +78,10 @@ module _ (os : List Opening) (s : Config) (t : List ℕ) (i : ℕ) where
     number_by_holds : (n : ℕ) (p : NumberState) → IsNumber n p left i (i + (prefix_len base + n)) → H (number_by p base (prefix_len base + n) m (take n ys))
     number_by_holds n RadixInteger f = integer_holds n RadixInteger f (inr refl) (value_of base (take n ys)) refl
     number_by_holds n Integer f = integer_holds n Integer f (inl refl) (value_of base (take n ys)) refl
-    number_by_holds n Fraction f = (tt, (n, Fraction, f, inl refl), tt)
+    number_by_holds n Fraction f = (tt, ((n, Fraction, f, inl refl), refl), tt)
     number_by_holds n Exponent f = tt
     number_by_holds n ExponentSign f = tt
-    number_by_holds n ExponentDigits f = (tt, (n, ExponentDigits, f, inr refl), tt)
+    number_by_holds n ExponentDigits f = (tt, ((n, ExponentDigits, f, inr refl), refl), tt)
 
     -- a number of some base behind k bytes that tell it, whose digits begin in the part p
     abbrev told_in : ℕ → ℕ → NumberState → Verdict

@@ -2,6 +2,7 @@
 use Rattle.std.proofs.Common.{◌≡◌, ℕ, zero, suc, ◌+◌, ◌<◌, ◌≤◌, Bool, true, false, ◌&&◌, ◌||◌, eqb, List, [], ◌∷◌, length, get_or, take, drop, ℤ, Some, None, Ok, Err, Option, Result, sym, refl, ap, ◌∙◌, subst, inl, inr, arith}
 use Rattle.std.proofs.lemmas.List.{drop-drop, length-drop, length-take}
 use Rattle.byte_search.specs.Search.{stands_at, first_in}
+use Rattle.decode.specs.Decoding.{decoded_len}
 use Rattle.finder.specs.Finding.{Opening}
 use Rattle.spaces.specs.Lines.{blank_run, line_end, LineEnd}
 use Rattle.spaces.specs.Runs.{run_after, white_run, AllPass, Longest}
@@ -79,17 +80,21 @@ module _ (os : List Opening) (s : Config) (t : List ℕ) (i : ℕ) where
         (subst (λ l. (eqb (get_or l 0 0) 34 || eqb (get_or l 0 0) 39) ≡ true) e q, subst (λ l. quote_end (get_or l 0 0) false (drop (i + 1) left) ≡ Some n) e g, omega arith)
 
     module _ (m : LexerState) (n : ℕ) (quoted : IsQuoted n left i (i + (length (take n xs) + 2))) where
-      decoded_holds : (k : ℕ) → first_in (92 ∷ []) (take n xs) ≡ Some k → (r : Result ℕ DecodeFault) → H (decoded (length (take n xs)) m r)
-      decoded_holds k f (Ok v) = (tt, (n, quoted, k, subst (λ l. first_in (92 ∷ []) (take n l) ≡ Some k) (behind_them 1) f), tt)
-      decoded_holds k f (Err g) = tt
+      decoded_holds : (k : ℕ) → first_in (92 ∷ []) (take n xs) ≡ Some k → (r : Result ℕ DecodeFault) → decoded_len (take n xs) ≡ r
+          → H (decoded (length (take n xs)) m r)
+      decoded_holds k f (Ok v) g =
+          let a = subst (λ l. first_in (92 ∷ []) (take n l) ≡ Some k) (behind_them 1) f in
+          let b = subst (λ l. decoded_len (take n l) ≡ Ok v) (behind_them 1) g in
+          (tt, ((n, quoted, k, a), (n, quoted, v, b, refl)), tt)
+      decoded_holds k f (Err h) g = tt
 
-      string_of_by : (o : Option ℕ) → first_in (92 ∷ []) (take n xs) ≡ o → (r : Result ℕ DecodeFault)
+      string_of_by : (o : Option ℕ) → first_in (92 ∷ []) (take n xs) ≡ o → (r : Result ℕ DecodeFault) → decoded_len (take n xs) ≡ r
           → H (elim o [ None ↦ told Str (length (take n xs) + 2) 1 (length (take n xs) + 1) None m Nothing | Some k ↦ decoded (length (take n xs)) m r ])
-      string_of_by None f r = (tt, (n, quoted, subst (λ l. first_in (92 ∷ []) (take n l) ≡ None) (behind_them 1) f), tt)
-      string_of_by (Some k) f r = decoded_holds k f r
+      string_of_by None f r g = (tt, ((n, quoted, subst (λ l. first_in (92 ∷ []) (take n l) ≡ None) (behind_them 1) f), refl), tt)
+      string_of_by (Some k) f r g = decoded_holds k f r g
 
       string_of_holds : H (string_of m (take n xs))
-      string_of_holds = string_of_by (first_in (92 ∷ []) (take n xs)) refl _
+      string_of_holds = string_of_by (first_in (92 ∷ []) (take n xs)) refl (decoded_len (take n xs)) refl
 
     string_by : (m : LexerState) → (eqb x 34 || eqb x 39) ≡ true → (r : Option ℕ) → quote_end x false xs ≡ r → H (elim r [ None ↦ fault UnendedString (suc (length xs)) | Some n ↦ string_of m (take n xs) ])
     string_by m q None f = tt
@@ -107,7 +112,8 @@ module _ (os : List Opening) (s : Config) (t : List ℕ) (i : ℕ) where
     name_holds : (m : LexerState) (b : Bool) → leads_name x ≡ b → H (name m b)
     name_holds m true f =
         let n : ℕ = run is_name_part (x ∷ xs) in
-        (tt, (n, subst (λ l. leads_name (get_or l 0 0) ≡ true) e f, subst (λ l. LongestRun is_name_part l n) e (run_longest is_name_part (x ∷ xs)), refl), tt)
+        let l = subst (λ l. LongestRun is_name_part l n) e (run_longest is_name_part (x ∷ xs)) in
+        (tt, ((n, subst (λ l. leads_name (get_or l 0 0) ≡ true) e f, l, refl), refl), tt)
     name_holds m false f = tt
 
     other_holds : (m : LexerState) (b : Bool) → is_digit x ≡ b → H (elim b [ true ↦ number (dot_behind behind) m (x ∷ xs) | false ↦ name m (leads_name x) ])
@@ -128,7 +134,7 @@ module _ (os : List Opening) (s : Config) (t : List ℕ) (i : ℕ) where
 
     token_by_holds : (k : BlockSentinel) (b : ℤ) (o : Option Operator) → first_standing operators (x ∷ xs) ≡ o → H (token_by o behind k b x xs)
     token_by_holds k b None f = literal_holds (Inside k b)
-    token_by_holds k b (Some o) f = (tt, (ap (first_standing operators) (sym e) ∙ f, refl), tt)
+    token_by_holds k b (Some o) f = (tt, ((ap (first_standing operators) (sym e) ∙ f, refl), refl), tt)
 
     -- ends
 
@@ -156,9 +162,9 @@ module _ (os : List Opening) (s : Config) (t : List ℕ) (i : ℕ) where
       closes_holds = closes_by (is_sign x && stands_at d xs) (stands_at d (x ∷ xs)) refl refl
 
     close_by_holds : (k : BlockSentinel) → HoldsIf (close_by s k (end_of s k) x xs)
-    close_by_holds Variable = closes_holds Variable s.variable_end (λ r f. (tt, end_named s.variable_end r f, trim_waits r.1 (i + r.0)))
-    close_by_holds Expression = closes_holds Expression s.variable_end (λ r f. (tt, end_named s.variable_end r f, tt))
-    close_by_holds Block = closes_holds Block s.block_end (λ r f. (tt, inl (end_named s.block_end r f), tail_waits os s left (i + r.0) r.1 (drop r.0 (x ∷ xs)) (behind_them r.0)))
+    close_by_holds Variable = closes_holds Variable s.variable_end (λ r f. (tt, (end_named s.variable_end r f, refl), trim_waits r.1 (i + r.0)))
+    close_by_holds Expression = closes_holds Expression s.variable_end (λ r f. (tt, (end_named s.variable_end r f, refl), tt))
+    close_by_holds Block = closes_holds Block s.block_end (λ r f. (tt, (inl (end_named s.block_end r f), refl), tail_waits os s left (i + r.0) r.1 (drop r.0 (x ∷ xs)) (behind_them r.0)))
     close_by_holds LineStatement = tt
 
     close_holds : (k : BlockSentinel) (b : ℤ) → HoldsIf (close s k b x xs)
@@ -175,7 +181,7 @@ module _ (os : List Opening) (s : Config) (t : List ℕ) (i : ℕ) where
         let a : AllPass (white s) (take (suc n) (drop i left)) = subst (λ l. AllPass (white s) (take (suc n) l)) e (subst (λ j. AllPass (white s) (take j (x ∷ xs))) (sym f) (blanks_pass s w (x ∷ xs))) in
         let l = blank_le (x ∷ xs) in
         let z = ap length e in
-        (tt, white_named os s t i (suc n) (left_has t (left_len s t) i (suc n) (omega arith) (omega arith)) a, tt)
+        (tt, (white_named os s t i (suc n) (left_has t (left_len s t) i (suc n) (omega arith) (omega arith)) a, refl), tt)
 
     -- the ends of line statements
 
@@ -207,7 +213,7 @@ module _ (os : List Opening) (s : Config) (t : List ℕ) (i : ℕ) where
     statement_ends LineStatement b = elim (is_zero b) as (λ z. EndsIf (elim z [ true ↦ line_rest spaces (drop spaces (x ∷ xs)) | false ↦ None ])) [ true ↦ rest_ends (drop spaces (x ∷ xs)) refl | false ↦ tt ]
 
     statement_by : s.spaces ≡ white_space → (k : BlockSentinel) (b : ℤ) (r : Option ℕ) → EndsIf r → H (elim r [ Some n ↦ plain BlockEnd n Template Nothing | None ↦ blanks s behind k b x xs (blank_run (x ∷ xs)) ])
-    statement_by w k b (Some n) h = (tt, inr h, tt)
+    statement_by w k b (Some n) h = (tt, (inr h, refl), tt)
     statement_by w k b None h = blanks_holds w k b (blank_run (x ∷ xs)) refl
 
   -- at the template's end
@@ -221,7 +227,7 @@ module _ (os : List Opening) (s : Config) (t : List ℕ) (i : ℕ) where
       let z : i + 0 ≡ i = omega arith in
       let l : Longest (inline_white s) (drop i left) 0 = subst (λ l. Longest (inline_white s) l 0) e (white_longest (inline_white s) []) in
       let n : LineEnd (drop (i + 0) left) 0 = line_told (drop (i + 0) left) 0 (ap line_end (e ∙ ap (λ k. drop k left) (sym z))) in
-      (tt, inr (0, l, 0, n, omega arith, inr (omega (arith, length-drop i left, length-take (left_len s t) t, left_le s t))), tt)
+      (tt, (inr (0, l, 0, n, omega arith, inr (omega (arith, length-drop i left, length-take (left_len s t) t, left_le s t))), refl), tt)
 
   -- inside a tag a piece is what its kind says, and so is what waits behind it
   pub tag_holds : s.spaces ≡ white_space → i ≤ left_len s t → (k : BlockSentinel) (b : ℤ) (xs : List ℕ) → xs ≡ drop i left → H (tag_verdict s behind k b xs)

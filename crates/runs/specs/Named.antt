@@ -1,7 +1,8 @@
 -- Nothing misnamed: no opening lies in plain text, the longest opening names what it begins, and every piece has its form.
-use Rattle.std.specs.Prelude.{◌≡◌, ℕ, zero, suc, ◌+◌, ◌-◌, ◌^◌, ◌<◌, ◌≤◌, ◌⊎◌, Bool, true, false, ◌||◌, List, [], ◌∷◌, length, take, drop, None, Some, ◌==◌, slice_index}
+use Rattle.std.specs.Prelude.{◌≡◌, ℕ, zero, suc, ◌+◌, ◌-◌, ◌^◌, ◌<◌, ◌≤◌, ◌⊎◌, Bool, true, false, ◌||◌, List, [], ◌∷◌, length, take, drop, None, Some, Option, Ok, ◌==◌, slice_index}
 use Rattle.std.specs.List.{ContainsAt as Has}
 use Rattle.byte_search.specs.Search.{first_in, First, Stands}
+use Rattle.decode.specs.Decoding.{decoded_len}
 use Rattle.finder.specs.declared.StartMarker.{StartMarker}
 use Rattle.finder.specs.declared.StartMarker.TheVariants.{Variable as VariableMarker, Block as BlockMarker, Comment as CommentMarker, LineStatement as StatementMarker, LineComment as LineCommentMarker}
 use Rattle.finder.specs.Finding.{Opening, QualifiesAt}
@@ -170,6 +171,17 @@ IsNamed os s t i j Int = IsInt (take (left_len s t) t) i j
 IsNamed os s t i j Big = IsBig (take (left_len s t) t) i j
 IsNamed os s t i j Float = IsFloat (take (left_len s t) t) i j
 
--- every piece that is told lies where the one before it ended, and is what its kind says
+-- the value of a piece of this kind from i to j of u: that of an int is what its digits write, that of a string the length that its text is decoded to,
+-- and no other piece has one
+abbrev pub HasValue : List ℕ → ℕ → ℕ → Kind → Option ℕ → Type 0
+HasValue u i j Int o = (v : ℕ) × IsInteger v u i j × (o ≡ Some v)
+HasValue u i j String o = (n : ℕ) × IsQuoted n u i j × (v : ℕ) × (decoded_len (take n (drop (i + 1) u)) ≡ Ok v) × (o ≡ Some v)
+HasValue u i j k o = o ≡ None
+
+-- the piece is what its kind says, and has the value that it says
+abbrev pub IsPiece : List Opening → Config → List ℕ → ℕ → ℕ → Kind → Option ℕ → Type 0
+IsPiece os s t i j k o = IsNamed os s t i j k × HasValue (take (left_len s t) t) i j k o
+
+-- every piece that is told lies where the one before it ended, is what its kind says, and has its value
 abbrev pub Named : List Opening → Config → List ℕ → List Reply → Type 0
-Named os s t rs = (j : ℕ) × Along (λ i k p. Spans t i k p × IsNamed os s t i k p.kind) 0 (pieces_of rs) j
+Named os s t rs = (j : ℕ) × Along (λ i k p. Spans t i k p × IsPiece os s t i k p.kind p.value) 0 (pieces_of rs) j
