@@ -104,10 +104,10 @@ module _ (os : List Opening) (s : Config) (t : List ℕ) (i : ℕ) where
         → H (elim b [ true ↦ fault TrailingUnderscore (prefix_len base + r.0) | false ↦ number_by r.1 base (prefix_len base + r.0) m (take r.0 ys) ])
     scanned_holds d true e = tt
     scanned_holds d false e = number_by_holds r.0 r.1 (record {
-      digit = d;
+      begins = d;
       longest = longest_at base (is_dotted left i) (first_part base) ys r refl;
       ends = λ h. both_ways (last_is 95 (take r.0 ys)) e ((last_decides 95 (take r.0 ys) (last_is 95 (take r.0 ys)) refl).1 h);
-      all = refl;
+      reaches = refl;
     })
 
   -- the dot that a number looks back to stands right before it

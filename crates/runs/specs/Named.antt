@@ -1,4 +1,4 @@
--- Nothing misnamed: no opening lies in plain text, the longest opening names what it begins, and every piece has its form.
+-- Nothing misnamed: no opening lies in plain text, the longest opening names what it begins, and every piece has its form and its value.
 use Rattle.std.specs.Prelude.{◌≡◌, ℕ, zero, suc, ◌+◌, ◌-◌, ◌^◌, ◌<◌, ◌≤◌, ◌⊎◌, Bool, true, false, ◌||◌, List, [], ◌∷◌, length, take, drop, None, Some, Option, Ok, ◌==◌, slice_index}
 use Rattle.std.specs.List.{ContainsAt as Has}
 use Rattle.byte_search.specs.Search.{first_in, First, Stands}
@@ -86,11 +86,11 @@ abbrev pub is_dotted : List ℕ → ℕ → Bool
 is_dotted u zero = false
 is_dotted u (suc i) = slice_index u i == 46
 
--- how many bytes tell the base before the digits begin
+-- how many bytes before the digits tell the base
 abbrev pub prefix_len : ℕ → ℕ
 prefix_len base = elim (base == 10) [ true ↦ 0 | false ↦ 2 ]
 
--- the part of a number that its digits begin in
+-- the part in which the digits begin
 abbrev pub first_part : ℕ → NumberState
 first_part base = elim (base == 10) [ true ↦ Integer | false ↦ RadixInteger ]
 
@@ -98,15 +98,15 @@ first_part base = elim (base == 10) [ true ↦ Integer | false ↦ RadixInteger 
 abbrev pub digits_at : List ℕ → ℕ → List ℕ
 digits_at u i = drop (prefix_len (base_of (drop i u))) (drop i u)
 
--- a number: it begins with a digit, its first two bytes decide the base, and behind those that tell it stand n bytes, which are all that lead on;
--- in the part p the number stops, and not behind `_`
+-- a number: it begins with a digit, and its first two bytes decide the base; behind those that tell it come all the bytes that lead on from part to part.
+-- They are n, the last is no `_`, and the number stops in the part p
 pub record IsNumber (n : ℕ) (p : NumberState) (u : List ℕ) (i j : ℕ) : Type 0 where
-  pub digit : is_digit (slice_index (drop i u) 0) ≡ true
+  pub begins : is_digit (slice_index (drop i u) 0) ≡ true
   pub longest : LongestNumber (base_of (drop i u)) (is_dotted u i) (first_part (base_of (drop i u))) (digits_at u i) n p
   pub ends : EndsIn 95 (take n (digits_at u i)) → ⊥
-  pub all : j ≡ i + (prefix_len (base_of (drop i u)) + n)
+  pub reaches : j ≡ i + (prefix_len (base_of (drop i u)) + n)
 
--- an integer of the value v: a number that stops in such a part, and its digits write v
+-- an integer of the value v: a number that stops in the part of an integer, and its digits write v
 abbrev pub IsInteger : ℕ → List ℕ → ℕ → ℕ → Type 0
 IsInteger v u i j =
     (n : ℕ) × (p : NumberState) × IsNumber n p u i j × ((p ≡ Integer) ⊎ (p ≡ RadixInteger)) × Written (base_of (drop i u)) (take n (digits_at u i)) (Some v)
@@ -171,14 +171,13 @@ IsNamed os s t i j Int = IsInt (take (left_len s t) t) i j
 IsNamed os s t i j Big = IsBig (take (left_len s t) t) i j
 IsNamed os s t i j Float = IsFloat (take (left_len s t) t) i j
 
--- the value of a piece of this kind from i to j of u: that of an int is what its digits write, that of a string the length that its text is decoded to,
--- and no other piece has one
+-- the value of a piece of this kind from i to j of u: what the digits of an int write, the length that a string's text is decoded to, none of all others
 abbrev pub HasValue : List ℕ → ℕ → ℕ → Kind → Option ℕ → Type 0
 HasValue u i j Int o = (v : ℕ) × IsInteger v u i j × (o ≡ Some v)
 HasValue u i j String o = (n : ℕ) × IsQuoted n u i j × (v : ℕ) × (decoded_len (take n (drop (i + 1) u)) ≡ Ok v) × (o ≡ Some v)
 HasValue u i j k o = o ≡ None
 
--- the piece is what its kind says, and has the value that it says
+-- the piece of this kind from i to j is what its kind says, and has its value
 abbrev pub IsPiece : List Opening → Config → List ℕ → ℕ → ℕ → Kind → Option ℕ → Type 0
 IsPiece os s t i j k o = IsNamed os s t i j k × HasValue (take (left_len s t) t) i j k o
 

@@ -63,7 +63,8 @@ LooksBack t i =
     × (dot_behind (behind_at t i) ≡ dot_behind (reverse (take i t)))
 
 -- the promises of a run by lawful finders: its replies are those of the rules, whichever finder serves each call; its pieces are the template, nothing lost,
--- doubled or invented; they are what their kinds say; and from a resting point on no other run under the same settings tells anything else
+-- doubled or invented; they are what their kinds say, with the values that these say; and from a resting point on no other run under the same settings tells
+-- anything else
 pub record Promises (st : Settings) (m : LexerState) (t : List ℕ) (cs : List Asked) (rs : List Reply) : Type 0 where
   pub answers : rs ≡ replies (config_of st) (unread (config_of st) m t) (map (served (openings_of st)) cs)
   pub whole : Whole t rs
