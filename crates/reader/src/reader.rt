@@ -47,6 +47,7 @@ impl<'t> Reader<'t> {
         ensures real { AllReal (openings_of self.old.settings) }
         ensures numbered { IfErr result (λ f. Numbered f.kind) }
         ensures lawful { Lawful self.old (F.Finder.openings finder.now) → result ≡ (tell (openings_of self.old.settings) (config self.old) (view_of self.old)).answer }
+        ensures lawful_view { Lawful self.old (F.Finder.openings finder.now) → view_of self.new ≡ (tell (openings_of self.old.settings) (config self.old) (view_of self.old)).after }
     {
         match self.reading.told {
             Some(ending) => ending.map(|()| None),

@@ -22,12 +22,14 @@ returns-in-None g c =
     let e = told_now os (config r) (view_of r) c.in-None.is in
     let f = ap (λ v. tell_by (view_of r) (act (view_of r).core v)) c.verdict-verdict.ensures.value ∙ sym e in
     let a = c.answer.ensures.value ∙ ap (λ x. x.answer) f in
+    let b = c.answer.ensures.view ∙ ap (λ x. x.after) f in
     record {
       value = a;
-      view = c.answer.ensures.view ∙ ap (λ x. x.after) f;
+      view = b;
       settings = refl;
       ends = reader_ends r;
       real = none_passed r.settings;
       numbered = subst (λ x. IfErr x (λ f. Numbered f.kind)) (sym c.answer.ensures.value) (tells_numbered (view_of r) c.verdict-verdict.result c.verdict-verdict.ensures.numbered);
       lawful = λ h. a ∙ ap (λ x. x.answer) (same_tell os (openings_of r.settings) (apart r.settings) h (config r) (view_of r));
+      lawful_view = λ h. b ∙ ap (λ x. x.after) (same_tell os (openings_of r.settings) (apart r.settings) h (config r) (view_of r));
     }
