@@ -122,10 +122,12 @@ fn answer_all<S: Stream<Item = Piece, Fault = ReadFault>, F: Finder>(
     }
 }
 
-// Takes a pile, puts a look-ahead on it, makes one call after another on it, and writes each answer beside its call.
-// A pile as its layers' constructors made it, served by finders that are lawful for the reader below, answers as its layers over what that reader means.
+// Takes a pile, puts a look-ahead on it, makes one call after another on it, and writes each answer beside its call: what the pile means, wherever it stands, told
+// one after the other. A pile as its layers' constructors made it, served by finders that are lawful for the reader below, answers as its layers over what that
+// reader means.
 pub fn drive_pile<P: Pile + Drop, F: Finder>(pile: P, turns: &mut [Turn<F>])
     ensures asked { map unanswered turns.new ≡ map unanswered turns.old }
+    ensures means { AllServe (P.Stream.serves pile) F.Finder.openings turns.old → Answered (meant (P.Stream.items pile) (P.Stream.ending pile)) turns.old turns.new }
     ensures answers { P.fresh pile → AllServe (Lawful (P.lowest pile)) F.Finder.openings turns.old → Answered (pile_of (of_look_ahead ∷ P.layers pile) (P.lowest pile)) turns.old turns.new }
 {
     let mut pile = LookAhead::new(pile);
