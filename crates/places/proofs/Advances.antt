@@ -40,6 +40,11 @@ unfolding beyond
 beyond_append [] ys p = refl
 beyond_append (x ∷ xs) ys p = beyond_append xs ys (past x p)
 
+-- over a front, and then over the rest
+pub beyond_parts : (xs ys zs : List ℕ) (p q r : Place) → zs ≡ xs ++ ys → q ≡ capped (beyond xs p) → r ≡ capped (beyond ys q) → r ≡ capped (beyond zs p)
+beyond_parts xs ys zs p q r a b e =
+    e ∙ ap (λ t. capped (beyond ys t)) b ∙ capped_beyond ys (beyond xs p) ∙ ap capped (sym (beyond_append xs ys p)) ∙ ap (λ l. capped (beyond l p)) (sym a)
+
 pub beyond_none : (p : Place) → beyond [] p ≡ p
 unfolding beyond
 beyond_none p = refl

@@ -104,10 +104,10 @@ impl Place {
         ensures characters { (cs : List ℕ) → count_chars (encodes cs) ≡ length cs }
     {
         if bytes.len() < 32 {
-            self.walk(bytes)
-        } else {
-            self.leap(bytes)
+            return self.walk(bytes);
         }
+        let (front, rest) = bytes.split_at(bytes.len() / 32 * 32);
+        self.leap(front).walk(rest)
     }
 }
 
