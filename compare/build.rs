@@ -1,8 +1,8 @@
 // Cuts the original's decoder, finders and tokenizer out of its own source, and links our library
-// where the feature `boundary` asks for it.
+// where the feature `boundary` or `speed` asks for it.
 //
 // MINIJINJA_SRC  the folder that holds MiniJinja's `utils.rs` and `syntax.rs`
-// FARKEZTU_LIB   the folder that holds `libboundary.a` (default: ../target/staticlib)
+// FARKEZTU_LIB   the folder that holds `libboundary.a` or `libspeed.a` (default: ../target/staticlib)
 // RATTLE_LIB     the folder that holds the kit's `liblibc_c.a` (default: as `rt doc` tells); what
 //                it defines is needed only where ours allocates
 
@@ -140,7 +140,10 @@ fn main() {
     println!("cargo:rerun-if-env-changed=RATTLE_LIB");
     cut_original();
     if env::var_os("CARGO_FEATURE_BOUNDARY").is_some() {
-        link_ours();
+        link_ours("boundary", "tools/staticlib.sh");
+    }
+    if env::var_os("CARGO_FEATURE_SPEED").is_some() {
+        link_ours("speed", "tools/speedlib.sh");
     }
 }
 
@@ -167,23 +170,23 @@ fn cut_original() {
     fs::write(out, cut).unwrap();
 }
 
-fn link_ours() {
+fn link_ours(name: &str, script: &str) {
     let here = PathBuf::from(env::var_os("CARGO_MANIFEST_DIR").unwrap());
     let folder = match env::var_os("FARKEZTU_LIB") {
         Some(folder) => PathBuf::from(folder),
         None => here.join("../target/staticlib"),
     };
-    let library = folder.join("libboundary.a");
+    let library = folder.join(format!("lib{name}.a"));
     if !library.is_file() {
         let library = library.display();
         fail(&format!(
-            "there is no {library}: run tools/staticlib.sh, or set FARKEZTU_LIB"
+            "there is no {library}: run {script}, or set FARKEZTU_LIB"
         ));
     }
     let folder = folder.canonicalize().unwrap();
     println!("cargo:rerun-if-changed={}", library.display());
     println!("cargo:rustc-link-search=native={}", folder.display());
-    println!("cargo:rustc-link-lib=static=boundary");
+    println!("cargo:rustc-link-lib=static={name}");
     if let Some(folder) = kit_library().filter(|folder| folder.join("liblibc_c.a").is_file()) {
         println!("cargo:rustc-link-search=native={}", folder.display());
         println!("cargo:rustc-link-lib=static=libc_c");

@@ -1,5 +1,5 @@
 // Compares the original's decoder of string escapes, its finders and its tokenizer with ours, tests the
-// law of resting points, and records the original's answers.
+// law of resting points, times the tokenizer and our reader, and records the original's answers.
 
 mod find;
 #[allow(dead_code)]
@@ -10,6 +10,8 @@ mod program;
 mod read;
 mod record;
 mod reference;
+#[cfg(feature = "speed")]
+mod speed;
 #[cfg_attr(not(feature = "boundary"), allow(dead_code))]
 mod texts;
 #[cfg(feature = "boundary")]
@@ -23,6 +25,7 @@ compare unescape [--exhaustive LENGTH] [--random COUNT] [--seed SEED]
 compare find --program PATH [--exhaustive LENGTH] [--random COUNT] [--seed SEED]
 compare read [--program PATH] [--exhaustive LENGTH] [--random COUNT] [--seed SEED] [--large] [FILE or FOLDER ...]
 compare rest --program PATH [--random COUNT] [--seed SEED]
+compare speed [FILE ...]
 compare read-cases [--random COUNT] [--seed SEED]
 compare read-answers
 compare record [--count COUNT] [--seed SEED]
@@ -89,6 +92,10 @@ fn run(mut words: Vec<String>) -> Result<bool, String> {
             let [] = files(words)?;
             read::rest::run(&program, random, seed)
         }
+        #[cfg(not(feature = "speed"))]
+        "speed" => Err("built without our library: build with `--features speed`".to_string()),
+        #[cfg(feature = "speed")]
+        "speed" => speed::run(&no_options(words)?),
         "read-cases" => {
             let random = number(&mut words, "--random", 1_000)? as usize;
             let seed = number(&mut words, "--seed", 1)?;

@@ -59,6 +59,30 @@ pub fn tokens<'s>(
     })
 }
 
+// How many tokens the original tells of a template under the defaults, or with a line comment prefix that no template has, and
+// so by its other finder; 0 where it fails.
+pub fn count(source: &str, by_matcher: bool) -> u64 {
+    let mut builder = SyntaxConfig::builder();
+    if by_matcher {
+        builder.line_comment_prefix("\u{1}\u{2}");
+    }
+    let Ok(config) = builder.build() else {
+        return 0;
+    };
+    let mut tokenizer = Tokenizer::new(source, "", false, config);
+    let mut count = 0;
+    loop {
+        match tokenizer.next_token() {
+            Ok(Some(token)) => {
+                std::hint::black_box(&token);
+                count += 1;
+            }
+            Ok(None) => return count,
+            Err(_) => return 0,
+        }
+    }
+}
+
 fn builder(delimiters: [&str; 8]) -> SyntaxConfigBuilder {
     let [block_start, block_end, variable_start, variable_end, comment_start, comment_end, statement, comment] =
         delimiters.map(str::to_string);
