@@ -36,6 +36,7 @@ fn differ_at_once(haystack: &[u8], needle: &[u8]) -> bool
 }
 
 // Whether `haystack` begins with `needle`. Mostly the first byte decides, so it is looked at before the library is asked.
+#[inline(always)]
 pub fn starts_with_bytes(haystack: &[u8], needle: &[u8]) -> bool
     ensures value { result ≡ stands_at needle.now haystack.now }
     ensures front { Decides result ((rest : List ℕ) × (haystack.now ≡ needle.now ++ rest)) }

@@ -63,6 +63,7 @@ impl Place {
     }
 
     // The place behind so many bytes of one line that are a character each.
+    #[inline(always)]
     fn along(self, len: usize) -> Place
         ensures { (xs : List ℕ) → length xs ≡ len → OneEach xs → result ≡ capped (beyond xs self) }
     {
@@ -74,6 +75,7 @@ impl Place {
     }
 
     // The place behind a few bytes: one after the other, but for those that are a character each.
+    #[inline(always)]
     fn walk(self, bytes: &[u8]) -> Place
         ensures { result ≡ capped (beyond bytes.now self) }
     {
@@ -97,6 +99,7 @@ impl Place {
     }
 
     // The place behind `bytes`, which stand at this place.
+    #[inline(always)]
     #[tactic(auto, using(crate::proofs::Characters::counts_characters))]
     pub fn advance(self, bytes: &[u8]) -> Place
         ensures value { result ≡ capped (beyond bytes.now self) }

@@ -24,6 +24,7 @@ pub struct Reader<'t> {
 
 impl<'t> Reader<'t> {
     // What the rules say of the bytes ahead.
+    #[inline(always)]
     fn verdict<F: Finder>(&self, finder: &F) -> Verdict
         ensures value { result ≡ ruled (F.Finder.openings finder.now) (config self.now) (view_of self.now).core }
         ensures fits { Keeps self.now.reading result }
@@ -39,6 +40,7 @@ impl<'t> Reader<'t> {
     }
 
     // The next piece, or that the reading is finished, or its fault; how it ends is told again at every later call: what the rules tell with the finder's openings.
+    #[inline(always)]
     pub fn next_piece<F: Finder>(&mut self, finder: &F) -> Result<Option<Piece>, ReadFault>
         ensures value { result ≡ (tell (F.Finder.openings finder.now) (config self.old) (view_of self.old)).answer }
         ensures view { view_of self.new ≡ (tell (F.Finder.openings finder.now) (config self.old) (view_of self.old)).after }

@@ -76,6 +76,7 @@ impl<'t> Reading<'t> {
     }
 
     // Takes a piece off the bytes ahead.
+    #[inline(always)]
     fn take_step(&mut self, step: Step) -> Piece
         requires { Forward (self.old.left - self.old.offset) self.old.state self.old.pending step }
         ensures piece { result ≡ placed (place_at self.old.template.now self.old.offset) (part_at self.old.template.now self.old.offset step) }
@@ -138,6 +139,7 @@ impl<'t> Reading<'t> {
     }
 
     // Does what the rules say: takes a piece off, or the cut, or tells the ending.
+    #[inline(always)]
     pub(crate) fn answer(&mut self, verdict: Verdict) -> Result<Option<Piece>, ReadFault>
         requires fits { Keeps self.old verdict }
         requires numbered { IfErr verdict (λ f. Numbered f.kind) }

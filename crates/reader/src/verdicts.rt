@@ -25,6 +25,7 @@ fn over(rest: &[u8]) -> Verdict
 }
 
 // What the rules say of the bytes ahead.
+#[inline(always)]
 pub(crate) fn verdict_at<F: Finder>(
     here: &Cursor,
     finder: &F,

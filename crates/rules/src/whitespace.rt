@@ -50,6 +50,7 @@ impl Whitespace {
     }
 
     // The end of a tag at the front: a sign and the end are tried first, then the end alone. How many bytes they have, and the sign.
+    #[inline(always)]
     pub fn signed_end(rest: &[u8], end: &[u8]) -> Option<(usize, Whitespace)>
         ensures value { result ≡ basic_end end.now 0 rest.now }
         ensures within { IfSome result (λ t. t.0 ≤ length rest.now) }

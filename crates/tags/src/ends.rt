@@ -44,6 +44,7 @@ impl<'s> Tag<'s> {
     }
 
     // What ends the tag; a line statement has no such end.
+    #[inline(always)]
     fn end(&self) -> Option<&'s [u8]>
         ensures { option_copied result ≡ end_of (config_at self.now.here) self.now.sentinel }
     {
@@ -56,6 +57,7 @@ impl<'s> Tag<'s> {
     }
 
     // An end of so many bytes with its sign.
+    #[inline(always)]
     fn closing(&self, ws: Whitespace, len: usize) -> Step
         ensures { ok (just result) ≡ closing_at (config_at self.now.here) self.now.sentinel ws len (ahead self.now.here) }
     {
@@ -75,6 +77,7 @@ impl<'s> Tag<'s> {
     }
 
     // The end of the tag at the front: a sign and the end are tried first, then the end alone.
+    #[inline(always)]
     fn closes(&self, end: &[u8]) -> Option<Step>
         ensures { option_map (λ p. ok (just p)) result ≡ at_tag (λ s bs k b x xs. closes_at s k end.now x xs) self.now }
     {
@@ -83,6 +86,7 @@ impl<'s> Tag<'s> {
     }
 
     // The end of the tag at the front, at a balance of exactly 0.
+    #[inline(always)]
     #[tactic(auto, unfolding(rules::specs::Tags::close))]
     pub fn close(&self) -> Option<Step>
         ensures { option_map (λ p. ok (just p)) result ≡ at_tag (λ s bs. close_at s) self.now }

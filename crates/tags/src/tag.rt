@@ -41,6 +41,7 @@ impl<'s> Tag<'s> {
     }
 
     // The end of the tag, else a token.
+    #[inline(always)]
     fn inside(&self) -> Result<Step, Fault>
         ensures { verdict_of result ≡ at_tag inside_at self.now }
     {
@@ -51,6 +52,7 @@ impl<'s> Tag<'s> {
     }
 
     // ASCII blanks, which are passed over, else the end of the tag or a token.
+    #[inline(always)]
     fn blanks(&self) -> Result<Step, Fault>
         ensures { verdict_of result ≡ at_tag (λ s bs k b x xs. blanks_at s bs k b x xs (blank_run (x ∷ xs))) self.now }
     {
@@ -74,6 +76,7 @@ fn tag_end(sentinel: BlockSentinel) -> Option<Step>
 }
 
 // What comes inside a tag at a balance of brackets.
+#[inline(always)]
 #[tactic(auto, unfolding(rules::specs::Tags::tag_verdict))]
 pub fn tokenize_block_or_var(here: &Cursor, sentinel: BlockSentinel, balance: i64) -> Verdict
     requires { Moderate balance }

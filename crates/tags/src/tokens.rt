@@ -15,6 +15,7 @@ use rules::{Fault, LexerState, Pending, Step};
 use words::{eat_string, lex_identifier, operator, weight};
 
 // An identifier, and the state in which the reading goes on behind it; else no token begins here.
+#[inline(always)]
 fn eat_identifier(rest: &[u8], state: LexerState) -> Result<Step, Fault>
     ensures { verdict_of result ≡ named state rest.now }
 {
@@ -30,6 +31,7 @@ impl<'s> Tag<'s> {
     ghost use Rattle.tags.specs.Tag.{at_tag};
 
     // A string, a number or an identifier; else no token begins here.
+    #[inline(always)]
     #[tactic(auto, unfolding(rules::specs::Tags::literal))]
     fn literal(&self) -> Result<Step, Fault>
         ensures { verdict_of result ≡ at_tag (λ s bs k b x xs. literal_at bs (inside k b) x xs) self.now }
@@ -43,6 +45,7 @@ impl<'s> Tag<'s> {
     }
 
     // An operator, which a bracket adds to the balance.
+    #[inline(always)]
     fn operated(&self, operator: Operator) -> Step
         ensures { Ok (Some result) ≡ plain (operates operator) (length (operator_text operator)) (inside self.now.sentinel (self.now.balance +ℤ weight_of operator)) idle }
     {
@@ -52,6 +55,7 @@ impl<'s> Tag<'s> {
     }
 
     // An operator, else a literal.
+    #[inline(always)]
     pub fn token(&self) -> Result<Step, Fault>
         ensures { verdict_of result ≡ at_tag (λ s. token_at) self.now }
     {

@@ -35,6 +35,7 @@ fn single(b: u8) -> Option<Operator>
 }
 
 // The operator at the front, if any: those of two bytes come first.
+#[inline(always)]
 #[tactic(auto, using(crate::proofs::Operating::first_operator), unfolding(rules::specs::Tags::first_standing, byte_search::specs::Search::stands_at))]
 pub fn operator(rest: &[u8]) -> Option<Operator>
     ensures value { result ≡ first_standing all_operators rest.now }
