@@ -1,9 +1,10 @@
 -- Digits, and the bytes that they write.
-use Rattle.std.proofs.Common.{◌≡◌, ℕ, zero, suc, ◌+◌, ◌*◌, ◌/◌, ◌%◌, ◌≢◌, ◌<◌, ◌≤◌, List, [], ◌∷◌, ◌++◌, length, get_or, drop, Some, None, Option, sym, refl, ap, ◌∙◌, arith}
-use Rattle.std.proofs.lemmas.List.{append-nil, drop_more, drop_all}
+use Rattle.std.proofs.Common.{◌≡◌, ℕ, zero, suc, ◌+◌, ◌*◌, ◌/◌, ◌%◌, ◌≢◌, ◌<◌, ◌≤◌, List, [], ◌∷◌, ◌++◌, length, get_or, take, drop, Some, None, Option, sym, refl, ap, ◌∙◌, arith}
+use Rattle.std.proofs.lemmas.List.{append-nil, append_assoc, drop_more, drop_all, take_more, flat_map_more}
+use Rattle.std.specs.List.{flat_map}
 use Rattle.std.specs.Simd.{first_chunks}
 use Rattle.escape.specs.Escapes.{hex_value}
-use Rattle.hex_fields.specs.Hex.{byte_of, before, unhex}
+use Rattle.hex_fields.specs.Hex.{byte_text, hex_text, byte_of, before, unhex}
 
 -- bytes before others
 abbrev pub joined : List ℕ → Option (List ℕ) → Option (List ℕ)
@@ -55,3 +56,10 @@ pub one_byte : (xs : List ℕ) (b : ℕ) → length xs ≡ 1 → get_or xs 0 0 �
 one_byte [] b l e = absurd (omega arith)
 one_byte (x ∷ []) b l e = ap (λ y. y ∷ []) e
 one_byte (x ∷ (y ∷ ys)) b l e = absurd (omega arith)
+
+-- a space and one byte more
+pub text_more : (b : ℕ) (bs : List ℕ) (i : ℕ) → i < length bs → (hex_text (b ∷ take i bs) ++ (32 ∷ [])) ++ byte_text (get_or bs i 0) ≡ hex_text (b ∷ take (i + 1) bs)
+text_more b bs i h =
+    append_assoc (hex_text (b ∷ take i bs)) (32 ∷ []) (byte_text (get_or bs i 0))
+    ∙ flat_map_more (λ c. 32 ∷ byte_text c) (byte_text b) (take i bs) (get_or bs i 0)
+    ∙ ap (λ xs. byte_text b ++ flat_map (λ c. 32 ∷ byte_text c) xs) (sym (take_more bs i 0 h))

@@ -1,9 +1,20 @@
 -- Bytes in hexadecimal.
-use Rattle.std.specs.Prelude.{◌≡◌, ℕ, ◌+◌, ◌*◌, ◌⊎◌, List, [], ◌∷◌, Some, None, Ok, Err, vec_items, Option, Result, Vec, ◌≢◌}
+use Rattle.std.specs.Prelude.{◌≡◌, ℕ, ◌+◌, ◌*◌, ◌/◌, ◌%◌, ◌⊎◌, true, List, [], ◌∷◌, ◌++◌, Some, None, Ok, Err, vec_items, Option, Result, Vec, ◌≢◌}
+use Rattle.std.specs.List.{flat_map}
+use Rattle.std.specs.Fmt.{digit_glyph}
 use Rattle.std.specs.declared.alloc.Global.{Global}
 use Rattle.escape.specs.Escapes.{hex_value}
 use Rattle.hex_fields.specs.declared.HexError.{HexError}
 use Rattle.hex_fields.specs.declared.HexError.TheVariants.{NotHex, NoMemory}
+
+-- a byte in print: its two digits, of which those from ten on are A to F
+abbrev pub byte_text : ℕ → List ℕ
+byte_text b = digit_glyph true (b / 16) ∷ digit_glyph true (b % 16) ∷ []
+
+-- bytes in print: two digits each, and a space between two
+abbrev pub hex_text : List ℕ → List ℕ
+hex_text [] = []
+hex_text (b ∷ bs) = byte_text b ++ flat_map (λ c. 32 ∷ byte_text c) bs
 
 -- the byte that two digits write, none where one is no digit
 abbrev pub byte_of : Option ℕ → Option ℕ → Option ℕ

@@ -2,26 +2,38 @@
 
 #![tactic(auto)]
 
-ghost use Rattle.std.specs.Prelude.{◌≡◌, ◌<◌, IfSome};
+ghost use Rattle.std.specs.Prelude.{◌≡◌, ◌<◌, IfSome, Some};
+ghost use Rattle.std.specs.Fmt.{WritesOnOk};
 ghost use Rattle.escape.specs.Escapes.{hex_value};
 ghost use Rattle.hex_fields.specs.declared.HexError.TheVariants.{NoMemory as unallocated};
-ghost use Rattle.hex_fields.specs.Hex.{byte_of, Read, ReadField};
+ghost use Rattle.hex_fields.specs.Hex.{byte_text, hex_text, byte_of, Read, ReadField};
 
 use std::alloc::{AllocError, AllocFailed, Global};
 use std::fmt;
 use thiserror::Error;
+
+// Writes the two digits of a byte.
+#[tactic(auto, using(std::proofs::lemmas::Fmt::hex_byte))]
+fn write_byte<W: fmt::Write>(f: &mut fmt::Formatter<W>, b: u8) -> fmt::Result
+    ensures { WritesOnOk W.write_str_gives f.old result (byte_text b) f.new }
+{
+    write!(f, "{b:02X}")
+}
 
 // Bytes to be shown, two digits each and a space between two.
 #[derive(Clone, Copy, Debug)]
 pub struct Hex<'a>(pub &'a [u8]);
 
 impl fmt::Display for Hex<'_> {
+    ghost output = { λ h. Some (hex_text h.0.now) };
+
     fn fmt<W: fmt::Write>(&self, f: &mut fmt::Formatter<W>) -> fmt::Result {
-        for (i, b) in self.0.iter().enumerate() {
-            if i > 0 {
+        if let [first, rest @ ..] = self.0 {
+            write_byte(f, *first)?;
+            for b in rest {
                 f.write_str(" ")?;
+                write_byte(f, *b)?;
             }
-            write!(f, "{b:02X}")?;
         }
         Ok(())
     }
