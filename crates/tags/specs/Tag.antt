@@ -7,4 +7,4 @@ use Rattle.tags.specs.declared.tag.Tag.{Tag}
 
 -- a rule there: it takes the settings, the bytes read, what opened the tag, the balance, the first byte to come and those behind it
 abbrev pub at_tag : {A : Type 0} → (Config → List ℕ → BlockSentinel → ℤ → ℕ → List ℕ → A) → Tag → A
-at_tag f t = f (config_at t.here) (behind t.here) t.sentinel t.balance (slice_index (ahead t.here) 0) (drop 1 (ahead t.here))
+at_tag f t = f (config_at t.here.now) (behind t.here.now) t.sentinel t.balance (slice_index (ahead t.here.now) 0) (drop 1 (ahead t.here.now))

@@ -46,7 +46,7 @@ impl<'s> Tag<'s> {
     // What ends the tag; a line statement has no such end.
     #[inline(always)]
     fn end(&self) -> Option<&'s [u8]>
-        ensures { option_copied result ≡ end_of (config_at self.now.here) self.now.sentinel }
+        ensures { option_copied result ≡ end_of (config_at self.now.here.now) self.now.sentinel }
     {
         let name = match self.sentinel {
             BlockSentinel::Variable | BlockSentinel::Expression => DelimiterName::VariableEnd,
@@ -59,7 +59,7 @@ impl<'s> Tag<'s> {
     // An end of so many bytes with its sign.
     #[inline(always)]
     fn closing(&self, ws: Whitespace, len: usize) -> Step
-        ensures { ok (just result) ≡ closing_at (config_at self.now.here) self.now.sentinel ws len (ahead self.now.here) }
+        ensures { ok (just result) ≡ closing_at (config_at self.now.here.now) self.now.sentinel ws len (ahead self.now.here.now) }
     {
         let (kind, state, pending) = match self.sentinel {
             BlockSentinel::Variable => (Kind::VariableEnd, LexerState::Template, trim_by(ws)),
@@ -99,7 +99,7 @@ impl<'s> Tag<'s> {
 
     // How many bytes the end of a line statement has, at a balance of exactly 0: those of the rest of its line (`line_rest`), if that is white.
     pub fn statement_end(&self) -> Option<usize>
-        ensures { result ≡ statement_end (config_at self.now.here) self.now.sentinel self.now.balance (ahead self.now.here) }
+        ensures { result ≡ statement_end (config_at self.now.here.now) self.now.sentinel self.now.balance (ahead self.now.here.now) }
     {
         match self.sentinel {
             BlockSentinel::LineStatement if self.is_balanced() => line_rest(self.here.ahead()),

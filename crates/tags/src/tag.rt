@@ -14,10 +14,10 @@ use spaces::blank_run;
 // bracket more.
 #[derive(Clone, Copy, Debug)]
 pub struct Tag<'s> {
-    pub here: Cursor<'s>,
+    pub here: &'s Cursor<'s>,
     pub sentinel: BlockSentinel,
     pub balance: i64,
-    ghost some: { 0 < length (ahead here) },
+    ghost some: { 0 < length (ahead here.now) },
     ghost moderate: { Moderate balance },
 }
 
@@ -35,7 +35,7 @@ impl<'s> Tag<'s> {
     // Whether a dot is right before this place.
     #[tactic(auto, using(numbers::proofs::Lasts::ends_is, crate::proofs::Dots::dot_is))]
     pub fn after_dot(&self) -> bool
-        ensures { result ≡ dot_behind (behind self.now.here) }
+        ensures { result ≡ dot_behind (behind self.now.here.now) }
     {
         self.here.read().ends_with(b".")
     }
@@ -86,7 +86,7 @@ pub fn tokenize_block_or_var(here: &Cursor, sentinel: BlockSentinel, balance: i6
         return Ok(tag_end(sentinel));
     }
     let tag = Tag {
-        here: *here,
+        here,
         sentinel,
         balance,
     };

@@ -48,18 +48,18 @@ fn all_text(here: &Cursor) -> Step
 // An opening that lies so far ahead: what it opens, and how many bytes it has.
 #[derive(Clone, Copy, Debug)]
 struct Opening<'s> {
-    here: Cursor<'s>,
+    here: &'s Cursor<'s>,
     distance: usize,
     marker: StartMarker,
     len: usize,
-    ghost within: { distance + len ≤ length (ahead here) },
+    ghost within: { distance + len ≤ length (ahead here.now) },
 }
 
 impl<'s> Opening<'s> {
     // White space before it, if there is any, then what it opens.
     fn gap_then(&self) -> Result<Step, Fault>
-        ensures value { verdict_of result ≡ gap_then (config_at self.now.here) self.now.distance self.now.marker self.now.len (ahead self.now.here) }
-        ensures inside { Inside (length (ahead self.now.here)) (verdict_of result) }
+        ensures value { verdict_of result ≡ gap_then (config_at self.now.here.now) self.now.distance self.now.marker self.now.len (ahead self.now.here.now) }
+        ensures inside { Inside (length (ahead self.now.here.now)) (verdict_of result) }
     {
         if self.distance > 0 {
             return Ok(Step::plain(
@@ -79,8 +79,8 @@ impl<'s> Opening<'s> {
     // The text before it, so many bytes, if there is any, then the white space.
     fn lead_then(&self, text: usize) -> Result<Step, Fault>
         requires { text ≤ self.now.distance }
-        ensures value { verdict_of result ≡ lead_then (config_at self.now.here) text self.now.distance self.now.marker self.now.len (ahead self.now.here) }
-        ensures inside { Inside (length (ahead self.now.here)) (verdict_of result) }
+        ensures value { verdict_of result ≡ lead_then (config_at self.now.here.now) text self.now.distance self.now.marker self.now.len (ahead self.now.here.now) }
+        ensures inside { Inside (length (ahead self.now.here.now)) (verdict_of result) }
     {
         match text {
             0 => self.gap_then(),
@@ -95,17 +95,17 @@ impl<'s> Opening<'s> {
 
     // Text to it, as it was found, with its sign behind it; one of no bytes opens nothing, and all that is left is text.
     fn meet(&self) -> Result<Step, Fault>
-        ensures value { verdict_of result ≡ met (config_at self.now.here) (behind self.now.here) (ahead self.now.here) (real (Some (self.now.distance, self.now.marker, self.now.len))) }
-        ensures inside { Inside (length (ahead self.now.here)) (verdict_of result) }
+        ensures value { verdict_of result ≡ met (config_at self.now.here.now) (behind self.now.here.now) (ahead self.now.here.now) (real (Some (self.now.distance, self.now.marker, self.now.len))) }
+        ensures inside { Inside (length (ahead self.now.here.now)) (verdict_of result) }
     {
         if self.len == 0 {
-            return Ok(all_text(&self.here));
+            return Ok(all_text(self.here));
         }
         let ws = opening_sign(
             self.marker,
             after(self.here.ahead(), self.distance + self.len),
         );
-        let text = lead(&self.here, self.distance, self.marker, ws);
+        let text = lead(self.here, self.distance, self.marker, ws);
         let signed = Opening {
             here: self.here,
             distance: self.distance,
@@ -129,7 +129,7 @@ fn text<F: Finder>(here: &Cursor, finder: &F) -> Verdict
         return Ok(Some(all_text(here)));
     };
     let opening = Opening {
-        here: *here,
+        here,
         distance,
         marker,
         len,
@@ -167,7 +167,7 @@ pub fn tokenize_root<F: Finder>(here: &Cursor, finder: &F, pending: Pending) -> 
         ))),
         Pending::Marker(marker, distance, len) => {
             let opening = Opening {
-                here: *here,
+                here,
                 distance,
                 marker,
                 len,
