@@ -1,5 +1,5 @@
 -- Nothing lost, doubled or invented.
-use Rattle.std.proofs.Common.{◌≡◌, ℕ, ◌≤◌, true, false, ◌||◌, List, [], ◌∷◌, length, Some, None, Ok, Err, Option, sym, refl, ap, ◌∙◌, ⊎_elim, arith}
+use Rattle.std.proofs.Common.{◌≡◌, ℕ, ◌≤◌, true, false, ◌||◌, List, [], ◌∷◌, length, Some, None, Ok, Err, Option, sym, refl, ap, ◌∙◌, inl, ⊎_elim, arith}
 use Rattle.std.specs.List.{list_any}
 use Rattle.std.proofs.lemmas.Bool.{cases_Bool, both_ways}
 use Rattle.finder.specs.Finding.{Opening}
@@ -73,13 +73,13 @@ module _ (t : List ℕ) (P Q : ℕ → ℕ → Piece → Type 0) (f : (i k : ℕ
 -- where any calls leave a reader of a template
 pub reached_run : (os : List Opening) (s : Config) (t : List ℕ) → Ended s → Apart os → length t ≤ 16777216 → (m : LexerState) → level m ≡ 0
     → (cs : List Asked) → AllLawful os cs → Reached os s t Any AnyKind (behind_calls s (unread s m t) cs)
-reached_run os s t ends apart small m h cs l = (along_run os s t Any AnyKind ends small apart (λ i m w p b c d e. (tt, tt)) tt m h tt cs l).0
+reached_run os s t ends apart small m h cs l = (along_run os s t Any AnyKind ends small apart (λ i m w p b c d e. (tt, tt)) (λ c. tt) m h tt cs l).0
 
 -- any run tells the template, piece by piece
 pub whole_run : (os : List Opening) (s : Config) (t : List ℕ) → Ended s → Apart os → length t ≤ 16777216 → (m : LexerState) → level m ≡ 0
     → (cs : List Asked) → AllLawful os cs → Whole t (replies s (unread s m t) cs)
 whole_run os s t ends apart small m h cs l =
-    let a = along_run os s t Any AnyKind ends small apart (λ i m w p b c d e. (tt, tt)) tt m h tt cs l in
+    let a = along_run os s t Any AnyKind ends small apart (λ i m w p b c d e. (tt, tt)) (λ c. tt) m h tt cs l in
     let q = a.0 in
     let n = now_le s t q.cut_told in
     let b = q.inside in
@@ -89,5 +89,5 @@ whole_run os s t ends apart small m h cs l =
 pub named_run : (os : List Opening) (s : Config) (t : List ℕ) (Keep : ℕ → LexerState → Pending → Type 0) → Ended s → Apart os → length t ≤ 16777216 → Kept os s t Keep (IsPiece os s t)
     → (m : LexerState) → level m ≡ 0 → Keep 0 m Nothing → (cs : List Asked) → AllLawful os cs → Named os s t (replies s (unread s m t) cs)
 named_run os s t Keep ends apart small kept m h k cs l =
-    let a = along_run os s t Keep (IsPiece os s t) ends small apart kept ((refl, refl), refl) m h k cs l in
+    let a = along_run os s t Keep (IsPiece os s t) ends small apart kept (λ c. ((refl, refl), refl, inl c)) m h k cs l in
     (a.0.at, a.1)

@@ -17,7 +17,7 @@ use Rattle.rules.specs.State.{Verdict}
 use Rattle.rules.specs.Tags.{tail_of, tail}
 use Rattle.raws.specs.Closers.{Closes}
 use Rattle.rules.proofs.Whole.{part_of}
-use Rattle.runs.specs.Named.{OpensAt, IsRawOpen, IsRawText, IsNamed, IsPiece}
+use Rattle.runs.specs.Named.{OpensAt, IsRawOpen, IsRawText, IsNamed, HasValue}
 
 -- what waits stands at the place i of u: white space and an opening, a line end, a raw body behind its tag, or the closing tag behind such a body
 abbrev pub WaitsAt : List Opening → Config → List ℕ → ℕ → Pending → Type 0
@@ -35,7 +35,10 @@ NotCut k = Unit {0}
 
 -- a piece that is told at the place i is not the cut, it is what its kind says, has its value, and what waits behind it stands there
 abbrev pub Holds : List Opening → Config → List ℕ → ℕ → Verdict → Type 0
-Holds os s t i (Ok (Some p)) = NotCut p.kind × IsPiece os s t i (i + p.len) p.kind p.value × WaitsAt os s (take (left_len s t) t) (i + p.len) p.pending
+Holds os s t i (Ok (Some p)) =
+    NotCut p.kind
+    × (IsNamed os s t i (i + p.len) p.kind × HasValue (take (left_len s t) t) i (i + p.len) p.kind p.value)
+    × WaitsAt os s (take (left_len s t) t) (i + p.len) p.pending
 Holds os s t i (Ok None) = Unit {0}
 Holds os s t i (Err f) = Unit {0}
 

@@ -4,6 +4,7 @@ pub mod Gaps
 pub mod Numbers
 pub mod Tags
 pub mod Texts
+pub mod Fills
 pub mod Naming
 pub mod Reached
 pub mod Covered

@@ -1,5 +1,5 @@
 -- Nothing is misnamed: what a verdict tells, and what waits behind it.
-use Rattle.std.proofs.Common.{◌≡◌, ℕ, ◌+◌, ◌<◌, ◌≤◌, Bool, List, [], ◌∷◌, take, drop, Some, Ok, refl, subst, arith}
+use Rattle.std.proofs.Common.{◌≡◌, ℕ, ◌+◌, ◌<◌, ◌≤◌, Bool, List, [], ◌∷◌, take, drop, Some, Ok, sym, refl, subst, arith}
 use Rattle.finder.specs.Finding.{Opening}
 use Rattle.spaces.specs.Spaces.{white_space}
 use Rattle.pieces.specs.declared.kind.Kind.TheVariants.{Cut}
@@ -9,12 +9,15 @@ use Rattle.rules.specs.declared.Pending.{Pending}
 use Rattle.rules.specs.declared.Step.{Step}
 use Rattle.rules.specs.At.{core_at}
 use Rattle.rules.specs.Bytes.{behind_at}
-use Rattle.rules.specs.Config.{Config}
-use Rattle.rules.specs.Reading.{left_len}
+use Rattle.rules.specs.Config.{Config, Ended}
+use Rattle.rules.specs.Reading.{left_len, rank}
 use Rattle.rules.specs.Shapes.{held, least}
 use Rattle.rules.specs.Texts.{AllReal, over_verdict, verdict_by, verdict}
+use Rattle.reader.proofs.Acts.{fits_at}
 use Rattle.runs.specs.Named.{IsPiece}
+use Rattle.runs.proofs.Fills.{Firm, firm, has_bytes}
 use Rattle.runs.proofs.Gaps.{WaitsAt, NotCut, Holds}
+use Rattle.runs.proofs.Reached.{left_le}
 use Rattle.runs.proofs.Tags.{tag_holds}
 use Rattle.runs.proofs.Texts.{waiting_holds}
 
@@ -34,12 +37,16 @@ module _ (os : List Opening) (s : Config) (real : AllReal os) (spaces : s.spaces
       → Holds os s t i (Ok (Some p))
   verdict_holds t i m w e p h g v = subst (Holds os s t i) v (by_holds t i m w h g)
 
-  -- a piece that a verdict tells is what its kind says, has its value, and what waits behind it stands there
-  pub named_verdict : (t : List ℕ) (i : ℕ) (m : LexerState) (w : Pending) (e : Bool) (p : Step)
+  -- a piece that a verdict tells is what its kind says, has its value, and a byte where its kind needs one, and what waits behind it stands there
+  pub named_verdict : Ended s → (t : List ℕ) (i : ℕ) (m : LexerState) (w : Pending) (e : Bool) (p : Step)
       → i + held w ≤ left_len s t → 0 < least w → WaitsAt os s (take (left_len s t) t) i w
       → verdict os s (core_at t (left_len s t) i m w e) ≡ Ok (Some p)
       → IsPiece os s t i (i + p.len) p.kind p.value × WaitsAt os s (take (left_len s t) t) (i + p.len) p.pending
-  named_verdict t i m w e p h l g v = let r = verdict_holds t i m w e p h g v in (r.1, r.2)
+  named_verdict ends t i m w e p h l g v =
+      let r = verdict_holds t i m w e p h g v in
+      let f = fits_at os s ends t (left_len s t) i m w e (left_le s t) h l (Ok (Some p)) (sym v) in
+      let c = subst (Firm (rank m w)) v (firm os s (behind_at t i) (drop i (take (left_len s t) t)) m w) in
+      ((r.1.0, r.1.1, has_bytes os s t i m w p ends f c r.1.0), r.2)
 
   -- no verdict tells the cut
   pub never_cut : (t : List ℕ) (i : ℕ) (m : LexerState) (w : Pending) (e : Bool) (p : Step)

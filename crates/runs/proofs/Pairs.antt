@@ -37,7 +37,7 @@ module _ (os : List Opening) (s : Config) (ends : Ended s) (apart : Distinct os)
   Leads t i x = (q : Stands os s t x.after) × Along (Lies os s t Any AnyKind) i (piece_of (Told x.answer)) q.at
 
   leads : (t : List ℕ) → length t ≤ 16777216 → (v : View) (r : Stands os s t v) → Leads t r.at (tell os s v)
-  leads t small v r = along_call os s t Any AnyKind ends small (λ i m w p b c d e. (tt, tt)) tt apart (Next os) (λ o. (λ h. h, λ h. h)) v r
+  leads t small v r = along_call os s t Any AnyKind ends small (λ i m w p b c d e. (tt, tt)) (λ c. tt) apart (Next os) (λ o. (λ h. h, λ h. h)) v r
 
   -- the text of a piece is told where it is
   text_told : (t : List ℕ) → length t ≤ 16777216 → (v : View) (r : Stands os s t v) (p : Part) (c : Core) → Leads t r.at (tell_by v (Gives p c))

@@ -59,7 +59,7 @@ promised st r rs h l e =
       answers = e ∙ served_replies os (apart st) s r.calls l (unread s r.state t);
       whole = subst (Whole t) (sym e) (whole_run os s t (ended st) (apart st) h.1 r.state z r.calls l);
       named = subst (Named os s t) (sym e) (named_run os s t (λ i m w. WaitsAt os s (take (left_len s t) t) i w) (ended st) (apart st) h.1
-          (λ i m w p a b k v. named_verdict os s (none_passed st) refl t i m w false p a b k v) r.state z tt r.calls l);
+          (λ i m w p a b k v. named_verdict os s (none_passed st) refl (ended st) t i m w false p a b k v) r.state z tt r.calls l);
       resting = λ q k. resting_runs os s (ended st) (apart st) r q z (flat q k) h.1 k.1;
     }
 

@@ -135,7 +135,7 @@ module _ (os : List Opening) (s : Config) (t : List ℕ) (Keep : ℕ → LexerSt
       let b : drop (length t) (take (length t) t) ≡ [] = let l = length-take (length t) t in drop_all (length t) (take (length t) t) (omega arith) in
       ap (λ l. verdict_by os s (behind_at t (length t)) l m w) b ∙ none_alike os s (behind_at t (length t)) (behind_at t i) m w ∙ ap (λ l. verdict_by os s (behind_at t i) l m w) (sym a) ∙ q
 
-  module _ (ends : Ended s) (small : length t ≤ 16777216) (kept : Kept) (cut : Is (left_len s t) (length t) Cut None) where
+  module _ (ends : Ended s) (small : length t ≤ 16777216) (kept : Kept) (cut : left_len s t < length t → Is (left_len s t) (length t) Cut None) where
     before_cut : (i : ℕ) (m : LexerState) (w : Pending) (v : View) → v.place ≡ place_at t i → v.core ≡ core_at t (left_len s t) i m w false
         → i + held w ≤ left_len s t → 0 < least w → level m ≤ i → Keep i m w
         → (x : Verdict) → verdict os s (core_at t (left_len s t) i m w false) ≡ x → Fits (left_len s t - i) m w x → Comes i (tell_by v (act (core_at t (left_len s t) i m w false) x))
@@ -186,7 +186,7 @@ module _ (os : List Opening) (s : Config) (t : List ℕ) (Keep : ℕ → LexerSt
           },
           one_piece i (length t) (placed v.place (cut_part t n)) (omega arith) (
             placed_spans small i (length t) v.place (cut_part t n) pl (place_end t n i h l) (omega arith) (let d = length-drop n t in omega arith) (omega arith),
-            subst (λ x. Is x (length t) Cut None) (sym h) cut,
+            subst (λ x. Is x (length t) Cut None) (sym h) (cut k),
           ),
         ))
         (λ k.
@@ -297,7 +297,7 @@ module _ (os : List Opening) (s : Config) (t : List ℕ) (Keep : ℕ → LexerSt
   }
 
   -- any predicate that the start has and that each verdict keeps holds along a run, and its pieces are what the verdicts say of them
-  pub along_run : Ended s → length t ≤ 16777216 → Apart os → Kept → Is (left_len s t) (length t) Cut None → (m : LexerState) → level m ≡ 0 → Keep 0 m Nothing
+  pub along_run : Ended s → length t ≤ 16777216 → Apart os → Kept → (left_len s t < length t → Is (left_len s t) (length t) Cut None) → (m : LexerState) → level m ≡ 0 → Keep 0 m Nothing
       → (cs : List Asked) → AllLawful os cs → (q : Reached (behind_calls s (unread s m t) cs)) × Along Lies 0 (pieces_of (replies s (unread s m t) cs)) q.at
   unfolding started
   along_run ends small apart kept cut m h k cs l = along_calls ends small kept cut apart cs l (unread s m t) (started m h k)

@@ -177,10 +177,14 @@ HasValue u i j Int o = (v : ℕ) × IsInteger v u i j × (o ≡ Some v)
 HasValue u i j String o = (n : ℕ) × IsQuoted n u i j × (v : ℕ) × (decoded_len (take n (drop (i + 1) u)) ≡ Ok v) × (o ≡ Some v)
 HasValue u i j k o = o ≡ None
 
--- the piece of this kind from i to j is what its kind says, and has its value
-abbrev pub IsPiece : List Opening → Config → List ℕ → ℕ → ℕ → Kind → Option ℕ → Type 0
-IsPiece os s t i j k o = IsNamed os s t i j k × HasValue (take (left_len s t) t) i j k o
+-- the piece of this kind from i to j of u has a byte; only a raw text, and the end of a line statement at the end of u, may have none
+abbrev pub HasBytes : Config → List ℕ → ℕ → ℕ → Kind → Type 0
+HasBytes s u i j k = (i < j) ⊎ (k ≡ RawText) ⊎ ((k ≡ BlockEnd) × IsStatementEnd s u i j × (j ≡ length u))
 
--- every piece that is told lies where the one before it ended, is what its kind says, and has its value
+-- the piece of this kind from i to j is what its kind says, has its value, and has a byte unless its kind may have none
+abbrev pub IsPiece : List Opening → Config → List ℕ → ℕ → ℕ → Kind → Option ℕ → Type 0
+IsPiece os s t i j k o = IsNamed os s t i j k × HasValue (take (left_len s t) t) i j k o × HasBytes s (take (left_len s t) t) i j k
+
+-- every piece that is told lies where the one before it ended, is what its kind says, has its value, and has a byte unless its kind may have none
 abbrev pub Named : List Opening → Config → List ℕ → List Reply → Type 0
 Named os s t rs = (j : ℕ) × Along (λ i k p. Spans t i k p × IsPiece os s t i k p.kind p.value) 0 (pieces_of rs) j
