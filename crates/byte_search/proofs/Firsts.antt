@@ -138,6 +138,27 @@ stands_lead ds xs k h (p, e) =
     let z : k + 0 ≡ k = omega arith in
     (omega arith, ap (λ j. get_or xs j 0) (sym z) ∙ sym (get_or-drop k xs 0 0) ∙ front_reads 0 (drop k xs) ds (drop (length ds) (drop k xs)) (stands_split ds (drop k xs) e) 0 h)
 
+-- no bytes stand at once
+pub stands_empty : (ds xs : List ℕ) → length ds < 1 → First (Stands ds xs) (Some 0)
+unfolding stands_at
+stands_empty [] xs h = ((omega arith, refl), λ k l. absurd (omega arith))
+stands_empty (d ∷ ds) xs h = absurd (omega arith)
+
+-- one step of a search for `ds` by its first byte: nothing stands before `i`, and `ys` are the bytes from `i` on
+module _ (ds xs ys : List ℕ) (i : ℕ) (h : 0 < length ds) (e : ys ≡ drop i xs) (clear : (k : ℕ) → k < i → Stands ds xs k → ⊥) where
+  lead_behind : (k : ℕ) → i ≤ k → Stands ds xs k → Holds (get_or ds 0 0) ys (k - i)
+  lead_behind k l p =
+      let q = stands_lead ds xs k h p in
+      let z : i + (k - i) ≡ k = omega arith in
+      (omega (arith, q.0, length-drop i xs, ap length e), ap (λ t. get_or t (k - i) 0) e ∙ get_or-drop i xs (k - i) 0 ∙ ap (λ j. get_or xs j 0) z ∙ q.1)
+
+  -- a needle does not stand before its first byte does
+  pub lead_skip : (d : ℕ) → First (Holds (get_or ds 0 0) ys) (Some d) → (k : ℕ) → k < i + d → Stands ds xs k → ⊥
+  lead_skip d f k l p = ⊎_elim (λ b. clear k b p) (λ b. f.1 (k - i) (omega arith) (lead_behind k b p)) (cases_lt k i)
+
+  pub lead_none : First (Holds (get_or ds 0 0) ys) None → (k : ℕ) → Stands ds xs k → ⊥
+  lead_none f k p = ⊎_elim (λ b. clear k b p) (λ b. f (k - i) (lead_behind k b p)) (cases_lt k i)
+
 -- the needle occurs, as the library says it, where it stands
 stands_occurs : (ds xs : List ℕ) (k : ℕ) → Stands ds xs k → OccursAt xs ds k
 stands_occurs ds xs k p = record { fits = stands_room ds xs k p; reads = at_reads 0 xs ds k _ (stands_split ds (drop k xs) p.1) }
@@ -169,13 +190,19 @@ first_in_shift ns xs i n = sym (first_in_by ns xs (shift i (first_in ns (drop i 
     (omega (arith, p.0, length-drop i xs), subst (λ b. Among ns b) (sym (get_or-drop i xs (k - i) 0 ∙ ap (λ j. get_or xs j 0) z)) p.1))
     (first_in_first ns (drop i xs))))
 
-pub distance_shift : (ds xs : List ℕ) (i : ℕ) → i ≤ length xs → ((k : ℕ) → k < i → Stands ds xs k → ⊥) → distance_to ds xs ≡ shift i (distance_to ds (drop i xs))
-distance_shift ds xs i l n = sym (distance_by ds xs (shift i (distance_to ds (drop i xs)))
-    (first_shift (Stands ds xs) (Stands ds (drop i xs)) i (distance_to ds (drop i xs)) n
+pub stands_shift : (ds xs : List ℕ) (i : ℕ) (r : Option ℕ) → i ≤ length xs → ((k : ℕ) → k < i → Stands ds xs k → ⊥) → First (Stands ds (drop i xs)) r → First (Stands ds xs) (shift i r)
+stands_shift ds xs i r l n =
+    first_shift (Stands ds xs) (Stands ds (drop i xs)) i r n
     (λ k p. (omega (arith, p.0, length-drop i xs), ap (stands_at ds) (sym (drop-drop k i xs)) ∙ p.1))
     (λ k h p. let z : i + (k - i) ≡ k = omega arith in
     (omega (arith, p.0, length-drop i xs), ap (stands_at ds) (drop-drop (k - i) i xs ∙ ap (λ j. drop j xs) z) ∙ p.1))
-    (distance_first ds (drop i xs))))
+
+pub distance_shift : (ds xs : List ℕ) (i : ℕ) → i ≤ length xs → ((k : ℕ) → k < i → Stands ds xs k → ⊥) → distance_to ds xs ≡ shift i (distance_to ds (drop i xs))
+distance_shift ds xs i l n = sym (distance_by ds xs (shift i (distance_to ds (drop i xs))) (stands_shift ds xs i (distance_to ds (drop i xs)) l n (distance_first ds (drop i xs))))
+
+-- what the library finds in `ys`, the bytes from `i` on, where nothing stands before `i`
+pub needle_behind : (ds xs ys : List ℕ) (i : ℕ) (r : Option ℕ) → ys ≡ drop i xs → i ≤ length xs → ((k : ℕ) → k < i → Stands ds xs k → ⊥) → FindsNeedle ys ds 0 r → First (Stands ds xs) (shift i r)
+needle_behind ds xs ys i r e l n f = stands_shift ds xs i r l n (subst (λ t. First (Stands ds t) r) e (first_of_needle ds ys r f))
 
 -- what is found behind `i`, which the search has passed
 pub found_behind : (ns xs : List ℕ) (i : ℕ) (r : Option ℕ) → ((k : ℕ) → k < i → HoldsAny ns xs k → ⊥) → r ≡ first_in ns (drop i xs) → shift i r ≡ first_in ns xs

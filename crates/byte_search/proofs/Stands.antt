@@ -41,3 +41,7 @@ stands_fits ds xs e = omega (arith, ap length (stands_split ds xs e), length-app
 -- an answer that decides whether `ds` stands is stands_at
 pub stands_by : (r : Bool) (ds xs : List ℕ) → Decides r ((rest : List ℕ) × (xs ≡ ds ++ rest)) → r ≡ stands_at ds xs
 stands_by r ds xs d = same_from_decides r (stands_at ds xs) d (stands_decides ds xs)
+
+-- a test at what is left of the bytes
+pub stands_told : (ds ys zs : List ℕ) (r t : Bool) → ys ≡ zs → r ≡ stands_at ds ys → r ≡ t → stands_at ds zs ≡ t
+stands_told ds ys zs r t e f g = ap (stands_at ds) (sym e) ∙ sym f ∙ g

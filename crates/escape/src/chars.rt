@@ -23,6 +23,7 @@ impl<'t> CharIndices<'t> {
         ensures ending { ⟦<Self as Stream>⟧.ending result ≡ closed 0 text.now }
         ensures serves { (os : List Opening) → ⟦<Self as Stream>⟧.serves result os }
         ensures left { ⟦<Self as Stream>⟧.left result ≡ length text.now }
+        ensures start { (result.at ≡ 0) × (result.text.now ≡ text.now) }
     {
         CharIndices { text, at: 0 }
     }

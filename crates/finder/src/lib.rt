@@ -29,7 +29,7 @@ impl StartMarker {
     ];
 
     // The marker's name.
-    fn name(self) -> &'static str
+    pub fn name(self) -> &'static str
         ensures { result.now ≡ marker_name self }
     {
         match self {

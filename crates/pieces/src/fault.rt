@@ -79,7 +79,7 @@ impl FaultKind {
     }
 
     // The fault's name.
-    fn name(self) -> &'static str
+    pub fn name(self) -> &'static str
         ensures { result.now ≡ fault_name self }
     {
         match self {

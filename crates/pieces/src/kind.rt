@@ -108,7 +108,7 @@ pub enum Kind {
 
 impl Kind {
     // The kind's name; an operator is named by its own bytes.
-    fn name(self) -> &'static str
+    pub fn name(self) -> &'static str
         ensures { result.now ≡ kind_name self }
     {
         match self {

@@ -69,7 +69,7 @@ pub fn end_raw_at(settings: &Settings, rest: &[u8]) -> Option<EndRaw>
 }
 
 // The first tag that closes a raw block: how far it is, and the tag.
-fn find_end_raw(settings: &Settings, rest: &[u8]) -> Option<(usize, EndRaw)>
+pub fn find_end_raw(settings: &Settings, rest: &[u8]) -> Option<(usize, EndRaw)>
     ensures value { result ≡ find_closer (config_of settings.now) rest.now }
     ensures first { FirstCloser (config_of settings.now) rest.now result }
     ensures within { FarWithin rest.now result }

@@ -46,7 +46,7 @@ impl OpenFault {
     }
 
     // The refusal's name.
-    fn name(self) -> &'static str
+    pub fn name(self) -> &'static str
         ensures { result.now ≡ fault_name self }
     {
         match self {

@@ -36,7 +36,7 @@ impl RecordFault {
     }
 
     // The fault's name.
-    fn name(self) -> &'static str
+    pub fn name(self) -> &'static str
         ensures { result.now ≡ name_of self }
     {
         match self {

@@ -69,7 +69,12 @@ pub fn line_is_white(source: &[u8], at: usize) -> bool
 }
 
 // Whether a strip is due before an opening with no sign that stands at a place. As above it answers for places past the end too, which a cursor would refuse.
-fn should_lstrip_block(settings: &Settings, marker: StartMarker, source: &[u8], at: usize) -> bool
+pub fn should_lstrip_block(
+    settings: &Settings,
+    marker: StartMarker,
+    source: &[u8],
+    at: usize,
+) -> bool
     ensures { result ≡ due (config_of settings.now) marker (behind_at source.now at) }
 {
     let flag = settings.whitespace().lstrip_blocks;

@@ -40,7 +40,7 @@ impl DelimiterName {
     }
 
     // The delimiter's name.
-    fn name(self) -> &'static str
+    pub fn name(self) -> &'static str
         ensures { result.now ≡ name_of self }
     {
         match self {

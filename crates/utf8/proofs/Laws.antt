@@ -1,6 +1,7 @@
 -- The laws of characters, their list and the well-formed prefix.
 use Rattle.std.proofs.Common.{◌≡◌, ℕ, zero, suc, ◌+◌, ◌-◌, ◌<◌, ◌≤◌, true, false, ◌⊎◌, List, [], ◌∷◌, ◌++◌, map, length, take, drop, Some, None, Ok, Err, IsUtf8, Option, Result, sym, refl, ap, ◌∙◌, subst, inl, inr, ⊎_elim, arith, take-add}
 use lib.Utf8.{scalar, scalars, encode, encodes}
+use Rattle.std.specs.Str.{IsValidUpTo}
 use Rattle.std.proofs.lemmas.List.{take-append-drop, length-drop, length-take, length-append, take_all, append_assoc, drop_at}
 use Rattle.std.proofs.lemmas.Bool.{and_parts, and_from, eq-eqb, ne_eqb, cases_lt}
 use Rattle.utf8.specs.declared.Char.{Char}
@@ -185,11 +186,33 @@ utf8_whole xs u =
     let m = prefix_le xs in
     omega arith
 
+pub prefix_valid : (xs : List ℕ) → prefix xs < length xs → IsValidUpTo xs (prefix xs)
+prefix_valid xs h = record {
+  short = h;
+  front = prefix_utf8 xs;
+  longest = λ m g u. let l = prefix_longest xs m u in let t = length-take m xs in omega arith;
+}
+
+-- behind a front that is UTF-8 the prefix goes on
+pub prefix_behind : (at : ℕ) (xs : List ℕ) → at ≤ length xs → IsUtf8 (take at xs) → prefix xs ≡ at + prefix (drop at xs)
+prefix_behind at xs h u =
+    let p = prefix_encodes u.0 (drop at xs) u.1.0 in
+    let q : prefix (encodes u.0 ++ drop at xs) ≡ prefix xs = ap prefix (ap (λ l. l ++ drop at xs) u.1.1 ∙ take-append-drop at xs) in
+    let l : length (encodes u.0) ≡ length (take at xs) = ap length u.1.1 in
+    let t = length-take at xs in
+    omega arith
+
 pub checked_ok : (s : List ℕ) → prefix s ≡ length s → checked s ≡ Ok tt
 checked_ok s e = ap (λ b. elim b [ true ↦ Ok tt | false ↦ Err (record { byte = prefix s }) ]) (eq-eqb (prefix s) (length s) e)
 
 pub checked_err : (s : List ℕ) → prefix s < length s → checked s ≡ Err (record { byte = prefix s })
 checked_err s h = ap (λ b. elim b [ true ↦ Ok tt | false ↦ Err (record { byte = prefix s }) ]) (ne_eqb (prefix s) (length s) (λ t. omega arith))
+
+-- what the check says, and that it agrees with the standard library
+pub agrees_err : (s : List ℕ) (at : ℕ) → prefix s ≡ at → at < length s → (Err (record { byte = at }) ≡ checked s) × Agrees s (Err (record { byte = at }))
+agrees_err s at p h =
+    let l : prefix s < length s = omega arith in
+    (ap (λ n. Err (record { byte = n })) (sym p) ∙ sym (checked_err s l), ((λ u. let w = utf8_whole s u in omega arith), subst (IsValidUpTo s) p (prefix_valid s l)))
 
 -- what agrees with the standard library is what the check says
 pub agrees_checked : (s : List ℕ) (r : Result Unit NotUtf8) → Agrees s r → r ≡ checked s

@@ -2,7 +2,7 @@
 
 #![tactic(auto)]
 
-ghost use Rattle.std.specs.Prelude.{◌≡◌, ◌+◌, ◌<◌, ◌≤◌, true, drop, Some, Decides};
+ghost use Rattle.std.specs.Prelude.{◌≡◌, ◌+◌, ◌<◌, ◌≤◌, true, length, take, drop, Some, Err, Decides, IfOk, IfErr, IsUtf8};
 ghost use Rattle.std.proofs.Math.Utf8.{scalar};
 ghost use Rattle.utf8.specs.Utf8.{char_at, checked, Encoded, Agrees, Second, not_utf8_text};
 
@@ -96,13 +96,55 @@ pub fn char_at(s: &[u8], at: usize) -> Option<Char>
     first_char(s.get(at..)?)
 }
 
+// How many bytes are tested at once, so that a refusal reads little further than its byte.
+const BLOCK: usize = 16_384;
+
+// One place back, where a character goes on at this one.
+fn back(s: &[u8], at: usize) -> usize
+    requires { (0 < at) × (at < length s.now) }
+    ensures { (result ≤ at) × (at ≤ result + 1) }
+{
+    if is_continuation(s[at]) { at - 1 } else { at }
+}
+
+// The end of the block at `at`. It cuts no character of a well-formed text, since no character has more than three bytes behind its first.
+fn block_end(s: &[u8], at: usize) -> usize
+    requires { at < length s.now }
+    ensures { (at < result) × (result ≤ length s.now) × (result ≤ at + BLOCK) }
+{
+    if s.len() - at <= BLOCK {
+        return s.len();
+    }
+    back(s, back(s, back(s, at + BLOCK)))
+}
+
+// A place behind the block at `at`, with all before it well formed, or the first bytes of the text that are not.
+fn past_block(s: &[u8], at: usize) -> Result<usize, NotUtf8>
+    requires { (at < length s.now) × IsUtf8 (take at s.now) }
+    ensures ok { IfOk result (λ end. (at < end) × (end ≤ length s.now) × IsUtf8 (take end s.now)) }
+    ensures err { IfErr result (λ e. Agrees s.now (Err e)) }
+{
+    let end = block_end(s, at);
+    let Err(e) = from_utf8(&s[at..end]) else {
+        return Ok(end);
+    };
+    let byte = at + e.valid_up_to();
+    // Where the text is not well formed, the block can end inside a character of it.
+    match char_at(s, byte) {
+        Some(c) => Ok(byte + c.width),
+        None => Err(NotUtf8 { byte }),
+    }
+}
+
 // Whether all of the bytes are well formed, or the first that are not. The kit's `simdutf8` answers as `std`'s `from_utf8` does, and is eight times as fast on text
 // that is not ASCII.
 pub fn check_utf8(s: &[u8]) -> Result<(), NotUtf8>
     ensures value { result ≡ checked s.now }
     ensures agrees { Agrees s.now result }
 {
-    from_utf8(s).map(|_| ()).map_err(|e| NotUtf8 {
-        byte: e.valid_up_to(),
-    })
+    let mut at = 0;
+    while at < s.len() {
+        at = past_block(s, at)?;
+    }
+    Ok(())
 }

@@ -18,10 +18,13 @@ pub fn quote_end(quote: u8, rest: &[u8]) -> Option<usize>
 {
     let mut escaped = false;
     for (i, b) in rest.iter().enumerate() {
-        if *b == quote && !escaped {
+        if escaped {
+            escaped = false;
+        } else if *b == quote {
             return Some(i);
+        } else {
+            escaped = *b == b'\\';
         }
-        escaped = !escaped && *b == b'\\';
     }
     None
 }
