@@ -87,12 +87,6 @@ module _ (q : ℕ) (xs : List ℕ) where
     open_by true u d a b o = subst (λ v. Open v (i + 1)) (sym (b refl)) (open_escaped o)
     open_by false u d a b o = subst (λ v. Open v (i + 1)) (sym (a refl)) (open_more (λ h. true≢false (sym (d h))) o)
 
-    pub open_escaped_by : (t u : Bool) → t ≡ true → u ≡ false → Open t i → Open u (i + 1)
-    open_escaped_by t u e f = open_by t u (λ h. e) (λ n. absurd (true≢false (sym e ∙ n))) (λ y. f ∙ sym (ap not e))
-
-    pub open_more_by : (t u : Bool) → t ≡ false → u ≡ eqb (get_or xs i 0) 92 → (get_or xs i 0 ≡ q → ⊥) → Open t i → Open u (i + 1)
-    open_more_by t u e f d = open_by t u (λ h. absurd (d h)) (λ n. f) (λ y. absurd (true≢false (sym y ∙ e)))
-
   -- every byte was passed
   pub open_all : (t : Bool) (i : ℕ) → length xs ≤ i → Open t i → None ≡ quote_end q false xs
   unfolding quote_end

@@ -18,13 +18,10 @@ pub fn quote_end(quote: u8, rest: &[u8]) -> Option<usize>
 {
     let mut escaped = false;
     for (i, b) in rest.iter().enumerate() {
-        if escaped {
-            escaped = false;
-        } else if *b == quote {
+        if *b == quote && !escaped {
             return Some(i);
-        } else {
-            escaped = *b == b'\\';
         }
+        escaped = !escaped && *b == b'\\';
     }
     None
 }

@@ -1,30 +1,28 @@
-use Rattle.std.proofs.Common.{subst}
-use Rattle.words.proofs.Quoting.{Open, open_none, open_escaped_by, open_more_by, open_here, first_here, open_all, first_none}
+use Rattle.std.proofs.Common.{sym, ◌∙◌, subst, ⊎_elim}
+use Rattle.std.proofs.lemmas.Bool.{true≢false}
+use Rattle.words.proofs.Quoting.{Open, open_none, open_by, open_here, open_all, first_none}
 use Rattle.words.proofs.strings.quote_end.Goals as goal
-use Rattle.words.proofs.strings.quote_end.Goals.{then-escaped, else-escaped+else-b-quote}
+use Rattle.words.proofs.strings.quote_end.Goals.{then-not-escaped-2, else-not-escaped-2}
 
 pub loop-i-init : goal.loop-i-init
 loop-i-init c = open_none c.args.quote c.args.rest.now
 
 pub loop-i-preserved : goal.loop-i-preserved
 loop-i-preserved c =
-    let q = c.args.quote in
-    let xs = c.args.rest.now in
-    let i = c.loop-i.i in
-    let h = c.loop-i-test.true in
-    elim c.if-escaped.branch [
-      | then-escaped w ↦ open_escaped_by q xs i h c.loop-i.escaped c.if-escaped.escaped w.if-escaped.true w.escaped-is c.loop-i.invariant
-      | else-escaped+else-b-quote w ↦ open_more_by q xs i h c.loop-i.escaped c.if-escaped.escaped w.if-escaped.false w.escaped-is w.if-b-quote.false c.loop-i.invariant
+    let step = open_by c.args.quote c.args.rest.now c.loop-i.i c.loop-i-test.true c.loop-i.escaped c.if-not-escaped-2.escaped
+    (⊎_elim (λ p h. p.1) (λ n h. absurd (n h)) c.else-b-quote.either) in
+    elim c.if-not-escaped-2.branch [
+      | then-not-escaped-2 w ↦ step (λ e. w.escaped-is) (λ e. absurd (true≢false (sym e ∙ w.if-not-escaped-2.true))) c.loop-i.invariant
+      | else-not-escaped-2 w ↦ step (λ e. absurd (true≢false (sym w.if-not-escaped-2.false ∙ e))) (λ e. w.escaped-is) c.loop-i.invariant
     ]
 
-pub returns-then-b-quote : goal.returns-then-b-quote
-returns-then-b-quote c =
+pub returns-then-not-escaped-clause-value : goal.returns-then-not-escaped-clause-value
+returns-then-not-escaped-clause-value c =
     let q = c.args.quote in
     let xs = c.args.rest.now in
     let i = c.loop-i.i in
-    let h = c.loop-i-test.true in
-    let o = subst (λ v. Open q xs v i) c.if-escaped.false c.loop-i.invariant in
-    record { value = open_here q xs i h c.if-b-quote.true o; first = first_here q xs i h c.if-b-quote.true o }
+    let o = subst (λ v. Open q xs v i) c.if-not-escaped.true c.loop-i.invariant in
+    open_here q xs i c.loop-i-test.true c.if-b-quote.true o
 
 pub returns : goal.returns
 returns c =
