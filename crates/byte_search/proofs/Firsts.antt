@@ -84,6 +84,11 @@ among_one : (b x : ℕ) → Among (b ∷ []) x → x ≡ b
 among_one b x (zero, h, e) = sym e
 among_one b x (suc j, h, e) = absurd (omega arith)
 
+pub first_of_one : (b : ℕ) (xs : List ℕ) (r : Option ℕ) → First (HoldsAny (b ∷ []) xs) r → First (Holds b xs) r
+first_of_one b xs r = first_like (HoldsAny (b ∷ []) xs) (Holds b xs) r
+    (λ k p. (p.0, among_one b (get_or xs k 0) p.1))
+    (λ k p. (p.0, (0, omega arith, sym p.1)))
+
 pub byte_by : (b : ℕ) (xs : List ℕ) (r : Option ℕ) → First (Holds b xs) r → r ≡ first_in (b ∷ []) xs
 byte_by b xs r f = first_in_by (b ∷ []) xs r
     (first_like (Holds b xs) (HoldsAny (b ∷ []) xs) r (λ k p. (p.0, (0, omega arith, sym p.1))) (λ k p. (p.0, among_one b (get_or xs k 0) p.1)) f)

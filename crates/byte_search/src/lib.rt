@@ -3,6 +3,7 @@
 #![tactic(auto)]
 
 ghost use Rattle.std.specs.Prelude.{◌≡◌, ℕ, ◌+◌, ◌-◌, ◌<◌, ◌≤◌, min, true, List, [], ◌∷◌, ◌++◌, length, take, drop, Decides, IfSome};
+ghost use Rattle.memchr.specs.Find.{FindsNeedle};
 ghost use Rattle.byte_search.specs.Search.{stands_at, first_in, distance_to, First, Holds, HoldsAny, Stands};
 
 use memchr::memmem;
@@ -99,9 +100,26 @@ pub fn memchr(haystack: &[u8], needle: u8) -> Option<usize>
     memchr::memchr(needle, haystack)
 }
 
-// How many places that hold a needle's first byte `memstr` tries by itself. To build the kit's searcher takes about 100 ns, so a needle that stands near is found without one; behind
-// that many tries the kit's search takes over, whose time is linear: tries alone would take the product of both lengths on a haystack full of the first byte.
-const TRIES: usize = 8;
+// Whether `behind` begins with `needle`. `memstr` has found the first byte there, so that the library is asked at once.
+#[inline(always)]
+fn stands_here(behind: &[u8], needle: &[u8]) -> bool
+    ensures { result ≡ stands_at needle.now behind.now }
+{
+    behind.starts_with(needle)
+}
+
+// The first place at which `needle` stands, by the kit's search. A call of its own: written out inside `memstr` it takes the registers of the loop before it.
+#[inline(never)]
+fn far(haystack: &[u8], needle: &[u8]) -> Option<usize>
+    ensures { FindsNeedle haystack.now needle.now 0 result }
+{
+    memmem::find(haystack, needle)
+}
+
+// How many places that hold a needle's first byte `memstr` tries by itself. To build the kit's searcher takes about 100 ns, so a needle that stands near is found without one, and
+// what the searcher costs is small beside as many tries; behind them the kit's search takes over, whose time is linear: tries alone would take the product of both lengths on a
+// haystack full of the first byte.
+const TRIES: usize = 64;
 
 // The first place at which `needle` stands.
 pub fn memstr(haystack: &[u8], needle: &[u8]) -> Option<usize>
@@ -112,13 +130,16 @@ pub fn memstr(haystack: &[u8], needle: &[u8]) -> Option<usize>
     let [lead, ..] = needle else {
         return Some(0);
     };
+    if haystack.len() < needle.len() {
+        return None;
+    }
     let mut at = 0;
     for _ in 0..TRIES {
         at += memchr(after(haystack, at), *lead)?;
-        if starts_with_bytes(after(haystack, at), needle) {
+        if stands_here(after(haystack, at), needle) {
             return Some(at);
         }
         at += 1;
     }
-    Some(at + memmem::find(after(haystack, at), needle)?)
+    Some(at + far(after(haystack, at), needle)?)
 }

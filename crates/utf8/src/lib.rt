@@ -2,7 +2,7 @@
 
 #![tactic(auto)]
 
-ghost use Rattle.std.specs.Prelude.{◌≡◌, ◌+◌, ◌<◌, ◌≤◌, true, length, take, drop, Some, Err, Decides, IfOk, IfErr, IsUtf8};
+ghost use Rattle.std.specs.Prelude.{◌≡◌, ◌+◌, ◌<◌, ◌≤◌, true, length, take, drop, max, Some, Err, Decides, IfOk, IfErr, IsUtf8};
 ghost use Rattle.std.proofs.Math.Utf8.{scalar};
 ghost use Rattle.utf8.specs.Utf8.{char_at, checked, Encoded, Agrees, Second, not_utf8_text};
 
@@ -96,8 +96,13 @@ pub fn char_at(s: &[u8], at: usize) -> Option<Char>
     first_char(s.get(at..)?)
 }
 
-// How many bytes are tested at once, so that a refusal reads little further than its byte.
+// How many bytes are tested at once: as many as lie before them, but at least `FIRST` and at most `BLOCK`. So a refusal reads at most as much again as lies before its
+// byte, or `FIRST` bytes, and `LEAST` more. Fewer than `LEAST` bytes are tested one by one, so the last block takes such a rest with it.
+const FIRST: usize = 1_024;
+
 const BLOCK: usize = 16_384;
+
+const LEAST: usize = 64;
 
 // One place back, where a character goes on at this one.
 fn back(s: &[u8], at: usize) -> usize
@@ -110,12 +115,15 @@ fn back(s: &[u8], at: usize) -> usize
 // The end of the block at `at`. It cuts no character of a well-formed text, since no character has more than three bytes behind its first.
 fn block_end(s: &[u8], at: usize) -> usize
     requires { at < length s.now }
-    ensures { (at < result) × (result ≤ length s.now) × (result ≤ at + BLOCK) }
+    ensures within { (at < result) × (result ≤ length s.now) }
+    ensures by_what_lies_before { result < at + max FIRST at + LEAST }
+    ensures at_most { result < at + BLOCK + LEAST }
 {
-    if s.len() - at <= BLOCK {
+    let len = at.clamp(FIRST, BLOCK);
+    if s.len() - at < len + LEAST {
         return s.len();
     }
-    back(s, back(s, back(s, at + BLOCK)))
+    back(s, back(s, back(s, at + len)))
 }
 
 // A place behind the block at `at`, with all before it well formed, or the first bytes of the text that are not.

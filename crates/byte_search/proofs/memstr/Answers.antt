@@ -21,13 +21,13 @@ returns-in_err-at c =
     let f = subst (First (Stands ds xs)) (sym e) n in
     record { value = distance_by ds xs _ f; first = f; within = search rules }
 
-pub returns-then-starts_with_bytes : goal.returns-then-starts_with_bytes
-returns-then-starts_with_bytes c =
+pub returns-then-stands_here : goal.returns-then-stands_here
+returns-then-stands_here c =
     let ds = c.args.needle.now in
     let xs = c.args.haystack.now in
     let i = c.loop.at in
     let d = c.in_ok-at.field-0 in
-    let s : Stands ds xs (i + d) = (omega (arith, c.in_ok-at.ensures.within), stands_told ds c.after-in-loop.result.now (drop (i + d) xs) c.starts_with_bytes.result true c.after-in-loop.ensures.value c.starts_with_bytes.ensures.value c.if-starts_with_bytes.true) in
+    let s : Stands ds xs (i + d) = (omega (arith, c.in_ok-at.ensures.within), stands_told ds c.after-in-loop.result.now (drop (i + d) xs) c.stands_here.result true c.after-in-loop.ensures.value c.stands_here.ensures c.if-stands_here.true) in
     let f : First (Stands ds xs) (Some (i + d)) = (s, lead_skip ds xs c.after.result.now i c.in-len1-up.len_at_least c.after.ensures.value c.loop.invariant.clear d c.in_ok-at.ensures.first) in
     record { value = distance_by ds xs (Some (i + d)) f; first = f; within = stands_room ds xs (i + d) s }
 
@@ -40,15 +40,15 @@ loop-preserved c =
     record {
       inside = omega (arith, c.in_ok-at.ensures.within);
       clear = below_more _ _ (lead_skip ds xs c.after.result.now i c.in-len1-up.len_at_least c.after.ensures.value c.loop.invariant.clear d c.in_ok-at.ensures.first)
-          (λ s. both_ways (stands_at ds (drop (i + d) xs)) (stands_told ds c.after-in-loop.result.now (drop (i + d) xs) c.starts_with_bytes.result false c.after-in-loop.ensures.value c.starts_with_bytes.ensures.value c.if-starts_with_bytes.false) s.1);
+          (λ s. both_ways (stands_at ds (drop (i + d) xs)) (stands_told ds c.after-in-loop.result.now (drop (i + d) xs) c.stands_here.result false c.after-in-loop.ensures.value c.stands_here.ensures c.if-stands_here.false) s.1);
     }
 
-pub returns-in_err-find : goal.returns-in_err-find
-returns-in_err-find c =
+pub returns-in_err-far : goal.returns-in_err-far
+returns-in_err-far c =
     let ds = c.args.needle.now in
     let xs = c.args.haystack.now in
-    let e : c.from_residual-in_err-find.result ≡ None = search rules in
-    let n = needle_behind ds xs c.after-2.result.now c.loop.at None c.after-2.ensures.value c.loop.invariant.inside c.loop.invariant.clear c.in_err-find.ensures in
+    let e : c.from_residual-in_err-far.result ≡ None = search rules in
+    let n = needle_behind ds xs c.after-2.result.now c.loop.at None c.after-2.ensures.value c.loop.invariant.inside c.loop.invariant.clear c.in_err-far.ensures in
     let f = subst (First (Stands ds xs)) (sym e) n in
     record { value = distance_by ds xs _ f; first = f; within = search rules }
 
@@ -57,6 +57,13 @@ returns c =
     let ds = c.args.needle.now in
     let xs = c.args.haystack.now in
     let i = c.loop.at in
-    let d = c.in_ok-find.field-0 in
-    let f : First (Stands ds xs) (Some (i + d)) = needle_behind ds xs c.after-2.result.now i (Some d) c.after-2.ensures.value c.loop.invariant.inside c.loop.invariant.clear c.in_ok-find.ensures in
+    let d = c.in_ok-far.field-0 in
+    let f : First (Stands ds xs) (Some (i + d)) = needle_behind ds xs c.after-2.result.now i (Some d) c.after-2.ensures.value c.loop.invariant.inside c.loop.invariant.clear c.in_ok-far.ensures in
     record { value = distance_by ds xs (Some (i + d)) f; first = f; within = stands_room ds xs (i + d) f.0 }
+
+pub returns-then-haystack-needle : goal.returns-then-haystack-needle
+returns-then-haystack-needle c =
+    let ds = c.args.needle.now in
+    let xs = c.args.haystack.now in
+    let f : First (Stands ds xs) None = (λ k p. omega (arith, stands_room ds xs k p, c.if-haystack-needle.true)) in
+    record { value = distance_by ds xs None f; first = f; within = search rules }
