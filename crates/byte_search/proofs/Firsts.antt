@@ -1,10 +1,11 @@
 -- The laws of is_in, first_in and distance_to: each finds the first place.
-use Rattle.std.proofs.Common.{◌≡◌, ℕ, zero, suc, ◌+◌, ◌-◌, ◌<◌, ◌≤◌, true, false, eqb, List, [], ◌∷◌, length, get_or, drop, Some, None, MatchOption, Option, sym, refl, ap, ◌∙◌, subst, ⊎_elim, arith}
+use Rattle.std.proofs.Common.{◌≡◌, ℕ, zero, suc, ◌+◌, ◌-◌, ◌<◌, ◌≤◌, true, false, eqb, List, [], ◌∷◌, length, get_or, take, drop, Some, None, MatchOption, IfSome, Option, sym, refl, ap, ◌∙◌, subst, ⊎_elim, arith}
 use Rattle.std.specs.List.{AllWithin, HoldsAt}
-use Rattle.std.proofs.lemmas.List.{drop-drop, get_or-drop, length-drop}
+use Rattle.std.proofs.lemmas.List.{drop-drop, get_or-drop, get_or-take, length-drop, length-take}
 use Rattle.std.proofs.lemmas.Bool.{eq-eqb, eqb-true, cases_Bool, cases_lt, cases_order, both_ways, false≢true}
 use Rattle.std.proofs.lemmas.List.Prefix.{front_reads, at_reads, at_from_reads}
-use Rattle.memchr.specs.Find.{IsFirstByte, is_byte, OccursAt, FindsNeedle}
+use Rattle.memchr.specs.Find.{IsFirstByte, is_byte, places, first_of, OccursAt, FindsNeedle, TakesFirst}
+use Rattle.memchr.proofs.lemmas.ValueLemmas.{IsFirstByte-value}
 use Rattle.byte_search.specs.Search.{stands_at, is_in, further, first_in, distance_to, First, Among, Holds, HoldsAny, Stands}
 use Rattle.byte_search.proofs.Stands.{stands_append, stands_split, stands_fits}
 
@@ -74,10 +75,17 @@ pub first_from : (ns ys : List ℕ) (r : Option ℕ) → MatchOption r (AllWithi
 first_from ns ys None a = first_in_by ns ys None (λ k p. a k 0 (omega arith) p.0 p.1)
 first_from ns ys (Some i) f = first_in_by ns ys (Some i) ((f.0, f.1 0), (λ k h p. f.2 k 0 (omega arith) h p.1))
 
--- what `memchr` of the library finds
-pub first_of_byte : (b : ℕ) (xs : List ℕ) (r : Option ℕ) → IsFirstByte (is_byte b) xs r → First (Holds b xs) r
-first_of_byte b xs None f = λ k p. f k (omega arith) p.0 (eq-eqb _ b p.1)
-first_of_byte b xs (Some i) f = ((f.0.high, eqb-true _ b f.1), λ k h p. f.0.before k (omega arith) h (eq-eqb _ b p.1))
+-- the first place of a byte, in the library's words
+byte_of_first : (b : ℕ) (xs : List ℕ) (r : Option ℕ) → First (Holds b xs) r → IsFirstByte (is_byte b) xs r
+byte_of_first b xs None f = λ k l h p. f k (h, eqb-true _ b p)
+byte_of_first b xs (Some i) f =
+    (record { low = omega arith; high = f.0.0; before = λ k l h p. f.1 k h (omega (arith, f.0.0), eqb-true _ b p) }, eq-eqb _ b f.0.1)
+
+-- what `next` gives is the first of what was left
+taken_first : (s t : List ℕ) (r : Option ℕ) → TakesFirst s r t → r ≡ first_of s
+unfolding first_of
+taken_first s t None h = ap first_of (sym h.0)
+taken_first s t (Some i) h = ap first_of (sym h)
 
 -- one of one byte is that byte
 among_one : (b x : ℕ) → Among (b ∷ []) x → x ≡ b
@@ -88,6 +96,18 @@ pub first_of_one : (b : ℕ) (xs : List ℕ) (r : Option ℕ) → First (HoldsAn
 first_of_one b xs r = first_like (HoldsAny (b ∷ []) xs) (Holds b xs) r
     (λ k p. (p.0, among_one b (get_or xs k 0) p.1))
     (λ k p. (p.0, (0, omega arith, sym p.1)))
+
+-- what the library's `memchr_iter` gives first
+pub first_of_places : (b : ℕ) (xs s t : List ℕ) (r : Option ℕ) → s ≡ places (is_byte b) xs → TakesFirst s r t → First (Holds b xs) r
+first_of_places b xs s t r e h =
+    let o = first_in (b ∷ []) xs in
+    let f = first_of_one b xs o (first_in_first (b ∷ []) xs) in
+    subst (First (Holds b xs)) (IsFirstByte-value (is_byte b) xs o (byte_of_first b xs o f) ∙ ap first_of (sym e) ∙ sym (taken_first s t r h)) f
+
+-- a place that is found lies in the bytes
+pub byte_inside : (b : ℕ) (xs : List ℕ) (r : Option ℕ) → First (Holds b xs) r → IfSome r (λ d. d < length xs)
+byte_inside b xs None f = tt
+byte_inside b xs (Some i) f = f.0.0
 
 pub byte_by : (b : ℕ) (xs : List ℕ) (r : Option ℕ) → First (Holds b xs) r → r ≡ first_in (b ∷ []) xs
 byte_by b xs r f = first_in_by (b ∷ []) xs r
@@ -194,6 +214,20 @@ first_in_shift ns xs i n = sym (first_in_by ns xs (shift i (first_in ns (drop i 
     (λ k h p. let z : i + (k - i) ≡ k = omega arith in
     (omega (arith, p.0, length-drop i xs), subst (λ b. Among ns b) (sym (get_or-drop i xs (k - i) 0 ∙ ap (λ j. get_or xs j 0) z)) p.1))
     (first_in_first ns (drop i xs))))
+
+-- what `position` finds among `ys`, asked for one byte
+pub byte_from : (b : ℕ) (ys : List ℕ) (r : Option ℕ) → MatchOption r (AllWithin (λ x. x ≡ b → ⊥) ys 0 (length ys)) (λ i. (i < length ys) × HoldsAt (λ x. x ≡ b) ys i × AllWithin (λ x. x ≡ b → ⊥) ys 0 i) → First (Holds b ys) r
+byte_from b ys None a = λ k p. a k 0 (omega arith) p.0 p.1
+byte_from b ys (Some i) f = ((f.0, f.1 0), λ k h p. f.2 k 0 (omega arith) h p.1)
+
+-- the first place of a byte among the next `n` is the first of all
+pub first_near : (b : ℕ) (xs ys : List ℕ) (n i : ℕ) → ys ≡ take n xs → First (Holds b ys) (Some i) → First (Holds b xs) (Some i)
+first_near b xs ys n i e g =
+    let f = subst (λ t. First (Holds b t) (Some i)) e g in
+    let l : i < n = omega (arith, f.0.0, length-take n xs) in (
+      (omega (arith, f.0.0, length-take n xs), sym (get_or-take n xs i 0 l) ∙ f.0.1),
+      λ k h p. f.1 k h (omega (arith, p.0, length-take n xs), get_or-take n xs k 0 (omega arith) ∙ p.1),
+    )
 
 pub stands_shift : (ds xs : List ℕ) (i : ℕ) (r : Option ℕ) → i ≤ length xs → ((k : ℕ) → k < i → Stands ds xs k → ⊥) → First (Stands ds (drop i xs)) r → First (Stands ds xs) (shift i r)
 stands_shift ds xs i r l n =
